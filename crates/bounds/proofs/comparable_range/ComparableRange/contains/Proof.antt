@@ -1,0 +1,28 @@
+use borrow.Author.Needs.{needs}
+use Rattle.keys.proofs.Signs.{and-taken, and-left}
+use Rattle.bounds.proofs.comparable_range.ComparableRange.contains.Statement.{statement}
+use Rattle.bounds.proofs.comparable_range.ComparableRange.contains.Tie as tie
+use Rattle.bounds.proofs.comparable_range.ComparableRange.contains.Reads as reads
+use Rattle.bounds.proofs.comparable_range.ComparableRange.contains.Lts as lts
+use Rattle.bounds.proofs.comparable_range.Kind.admits_from.Reads as admits-from-reads
+use Rattle.bounds.proofs.comparable_range.Kind.admits_to.Reads as admits-to-reads
+
+-- src/comparable_range.rt:384:9
+admits-from-requires : tie.Need-admits-from-requires
+admits-from-requires c κs = search needs
+
+-- src/comparable_range.rt:384:46
+admits-to-requires : tie.Need-admits-to-requires
+admits-to-requires c κs = search needs
+
+-- src/comparable_range.rt:379:5
+returns : tie.Need-returns
+returns c =
+    and-taken (c .before .if1 .taken) (c .before .before .admits-from .ensures) (c .admits-to .ensures)
+
+-- src/comparable_range.rt:379:5
+returns-2 : tie.Need-returns-2
+returns-2 c = and-left _ (c .if1 .left) (c .before .admits-from .ensures)
+
+pub contains-spec : {M : Type 1} → statement M
+contains-spec = tie.close (tie.spec admits-from-requires admits-to-requires returns returns-2)

@@ -1,0 +1,75 @@
+use borrow.Author.Needs.{needs}
+use mathlib.Core.Path.{sym, _∙_}
+use denote.Ref.{now}
+use Rattle.bounds.specs.Ranges.{rangeOf}
+use Rattle.bounds.proofs.Combining.{picked, intersected}
+use Rattle.bounds.proofs.comparable_range.ComparableRange.intersect.Statement.{statement}
+use Rattle.bounds.proofs.comparable_range.ComparableRange.intersect.Tie as tie
+use Rattle.bounds.proofs.comparable_range.ComparableRange.intersect.Reads as reads
+use Rattle.bounds.proofs.comparable_range.ComparableRange.intersect.Lts as lts
+use Rattle.bounds.proofs.comparable_range.Combined.when.Reads as when-reads
+use Rattle.bounds.proofs.comparable_range.ComparableRange.new.Reads as new-reads
+use Rattle.bounds.proofs.comparable_range.ComparableRange.non_empty.Reads as non-empty-reads
+use Rattle.bounds.proofs.comparable_range.Side.key.Reads as key-reads
+use Rattle.bounds.proofs.comparable_range.Side.kind.Reads as kind-reads
+use Rattle.bounds.proofs.comparable_range.max_start.Reads as max-start-reads
+use Rattle.bounds.proofs.comparable_range.min_end.Reads as min-end-reads
+
+-- src/comparable_range.rt:289:13
+max-start-requires : tie.Need-max-start-requires
+max-start-requires c κs = search needs
+
+-- src/comparable_range.rt:290:13
+min-end-requires : tie.Need-min-end-requires
+min-end-requires c κs = search needs
+
+-- src/comparable_range.rt:291:42
+kind-requires : tie.Need-kind-requires
+kind-requires c κs = search needs
+
+-- src/comparable_range.rt:291:60
+kind-requires-2 : tie.Need-kind-requires-2
+kind-requires-2 c κs = search needs
+
+-- src/comparable_range.rt:291:13
+new-requires : tie.Need-new-requires
+new-requires c κs = search needs
+
+-- src/comparable_range.rt:294:17
+key-requires : tie.Need-key-requires
+key-requires c κs = search needs
+
+-- src/comparable_range.rt:295:17
+key-requires-2 : tie.Need-key-requires-2
+key-requires-2 c κs = search needs
+
+-- src/comparable_range.rt:293:13
+non-empty-requires : tie.Need-non-empty-requires
+non-empty-requires c κs = search needs
+
+-- src/comparable_range.rt:292:9
+when-requires : tie.Need-when-requires
+when-requires c κs = search needs
+
+-- src/comparable_range.rt:275:5
+returns : tie.Need-returns
+returns c =
+    let x = c .before .before .before .before .before .before .before .before .before .before .before .before .before .args in
+    let m = picked (c .before .before .before .before .before .before .before .before .max-start .result) (x .self .start) (x .other .start) (now (x .start-key)) (now (x .other-start-key)) (c .before .before .before .before .new .ensures .0 ∙ c .before .before .before .before .before .before .kind .ensures) (c .before .before .before .key .ensures) in
+    let n = picked (c .before .before .before .before .before .before .before .min-end .result) (x .self .end) (x .other .end) (now (x .end-key)) (now (x .other-end-key)) (c .before .before .before .before .new .ensures .1 ∙ c .before .before .before .before .before .kind2 .ensures) (c .before .before .key2 .ensures) in
+    c .when .ensures ∙ intersected (rangeOf (x .self) (now (x .start-key)) (now (x .end-key))) (rangeOf (x .other) (now (x .other-start-key)) (now (x .other-end-key))) (c .before .before .before .before .before .before .before .before .max-start .ensures) (c .before .before .before .before .before .before .before .min-end .ensures) m n (sym (c .before .non-empty .ensures))
+
+pub intersect-spec : {M : Type 1} → statement M
+intersect-spec =
+    tie.close
+    (tie.spec
+    max-start-requires
+    min-end-requires
+    kind-requires
+    kind-requires-2
+    new-requires
+    key-requires
+    key-requires-2
+    non-empty-requires
+    when-requires
+    returns)

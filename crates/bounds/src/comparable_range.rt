@@ -1,0 +1,398 @@
+ghost use mathlib.Core.Path.{_≡_};
+ghost use mathlib.Core.Bool.{cond};
+ghost use lib.IntN.{ℤ};
+ghost use Rattle.keys.specs.Order.{sign};
+ghost use Rattle.bounds.specs.Bounds.{bound, isBounded, tie, tieOf, startOrder, endOrder, boundOrder, startAdmits, endAdmits};
+ghost use Rattle.bounds.specs.Ranges.{range, rangeOf, everything, sided, otherSide, maxStart, minEnd, maxEnd, rangeOrder, holds, notEmpty, touchesPair, isGiven, intersectOf, joinOf, unionOf, swapSides};
+
+// What kind of bound a key makes: Rust's `Bound`, with the key in a slice beside it.
+pub enum Kind {
+    Unbounded,
+    Included,
+    Excluded,
+}
+
+impl Kind {
+    pub const UNBOUNDED: Kind = Kind::Unbounded;
+
+    pub fn unbounded() -> Self
+        ensures { λ r. ⌜ r ≡ Kind.Unbounded ⌝ }
+    {
+        Kind::UNBOUNDED
+    }
+
+    pub fn included() -> Self
+        ensures { λ r. ⌜ r ≡ Kind.Included ⌝ }
+    {
+        Kind::Included
+    }
+
+    pub fn excluded() -> Self
+        ensures { λ r. ⌜ r ≡ Kind.Excluded ⌝ }
+    {
+        Kind::Excluded
+    }
+
+    pub fn bounded(self) -> bool
+        ensures { λ r. ⌜ r ≡ isBounded self ⌝ }
+    {
+        match self {
+            Kind::Unbounded => false,
+            Kind::Included => true,
+            Kind::Excluded => true,
+        }
+    }
+
+    // Where a start of this kind stands against one of the other at equal keys.
+    fn tie(self, other: Kind) -> i8
+        ensures { λ r. ⌜ r ≡ sign (tie self other) ⌝ }
+    {
+        match self {
+            Kind::Unbounded => match other {
+                Kind::Unbounded => 0,
+                Kind::Included => -1,
+                Kind::Excluded => -1,
+            },
+            Kind::Included => match other {
+                Kind::Unbounded => 1,
+                Kind::Included => 0,
+                Kind::Excluded => -1,
+            },
+            Kind::Excluded => match other {
+                Kind::Unbounded => 1,
+                Kind::Included => 1,
+                Kind::Excluded => 0,
+            },
+        }
+    }
+
+    pub fn compare_start(self, key: &[u8], other: Kind, other_key: &[u8]) -> i8
+        ensures { λ r. ⌜ r ≡ sign (startOrder (bound self (now (key .entry))) (bound other (now («other_key» .entry)))) ⌝ }
+    {
+        self.compare_bound(key, other, other_key, true)
+    }
+
+    pub fn compare_end(self, key: &[u8], other: Kind, other_key: &[u8]) -> i8
+        ensures { λ r. ⌜ r ≡ sign (endOrder (bound self (now (key .entry))) (bound other (now («other_key» .entry)))) ⌝ }
+    {
+        self.compare_bound(key, other, other_key, false)
+    }
+
+    // Two bounds of one sort, both starts or both ends: the Rust's `cmp_bound`.
+    fn compare_bound(self, key: &[u8], other: Kind, other_key: &[u8], start: bool) -> i8
+        ensures { λ r. ⌜ r ≡ sign (boundOrder start (bound self (now (key .entry))) (bound other (now («other_key» .entry)))) ⌝ }
+    {
+        let t = self.tie_of(other, start);
+        if !self.bounded() {
+            return t;
+        }
+        if !other.bounded() {
+            return t;
+        }
+        let o = keys::compare(key, other_key);
+        if o == 0 { t } else { o }
+    }
+
+    // An end's tie is the negated start's tie.
+    fn tie_of(self, other: Kind, start: bool) -> i8
+        ensures { λ r. ⌜ r ≡ sign (tieOf start self other) ⌝ }
+    {
+        let t = self.tie(other);
+        if start {
+            return t;
+        }
+        -t
+    }
+
+    // Whether a key meets this bound as a start.
+    pub fn admits_from(self, bound_key: &[u8], key: &[u8]) -> bool
+        ensures { λ r. ⌜ r ≡ startAdmits (bound self (now («bound_key» .entry))) (now (key .entry)) ⌝ }
+    {
+        match self {
+            Kind::Unbounded => true,
+            Kind::Included => keys::compare(bound_key, key) <= 0,
+            Kind::Excluded => keys::compare(bound_key, key) < 0,
+        }
+    }
+
+    // Whether a key meets this bound as an end.
+    pub fn admits_to(self, bound_key: &[u8], key: &[u8]) -> bool
+        ensures { λ r. ⌜ r ≡ endAdmits (bound self (now («bound_key» .entry))) (now (key .entry)) ⌝ }
+    {
+        match self {
+            Kind::Unbounded => true,
+            Kind::Included => keys::compare(key, bound_key) <= 0,
+            Kind::Excluded => keys::compare(key, bound_key) < 0,
+        }
+    }
+}
+
+// Which of two ranges a part comes from.
+pub enum Side {
+    First,
+    Second,
+}
+
+impl Side {
+    pub fn other(self) -> Self
+        ensures { λ r. ⌜ r ≡ otherSide self ⌝ }
+    {
+        match self {
+            Side::First => Side::Second,
+            Side::Second => Side::First,
+        }
+    }
+
+    pub fn kind(self, first: Kind, second: Kind) -> Kind
+        ensures { λ r. ⌜ r ≡ sided self first second ⌝ }
+    {
+        match self {
+            Side::First => first,
+            Side::Second => second,
+        }
+    }
+
+    // The key is handed back as a part of whichever slice it came in.
+    pub fn key<'a>(self, first: &'a [u8], second: &'a [u8]) -> &'a [u8]
+        ensures { λ r. ⌜ now r ≡ sided self (now (first .entry)) (now (second .entry)) ⌝ }
+    {
+        match self {
+            Side::First => first,
+            Side::Second => second,
+        }
+    }
+}
+
+// Rust's `max` of two starts: of equals the second.
+pub fn max_start(a: Kind, a_key: &[u8], b: Kind, b_key: &[u8]) -> Side
+    ensures { λ r. ⌜ r ≡ maxStart (bound a (now («a_key» .entry))) (bound b (now («b_key» .entry))) ⌝ }
+{
+    if 0 < a.compare_start(a_key, b, b_key) {
+        return Side::First;
+    }
+    Side::Second
+}
+
+// Rust's `min` of two ends: of equals the first.
+pub fn min_end(a: Kind, a_key: &[u8], b: Kind, b_key: &[u8]) -> Side
+    ensures { λ r. ⌜ r ≡ minEnd (bound a (now («a_key» .entry))) (bound b (now («b_key» .entry))) ⌝ }
+{
+    if 0 < a.compare_end(a_key, b, b_key) {
+        return Side::Second;
+    }
+    Side::First
+}
+
+// Rust's `max` of two ends: of equals the second.
+pub fn max_end(a: Kind, a_key: &[u8], b: Kind, b_key: &[u8]) -> Side
+    ensures { λ r. ⌜ r ≡ maxEnd (bound a (now («a_key» .entry))) (bound b (now («b_key» .entry))) ⌝ }
+{
+    if 0 < a.compare_end(a_key, b, b_key) {
+        return Side::First;
+    }
+    Side::Second
+}
+
+// The answer of intersect and union: which of the two ranges gives the start and which the end.
+pub enum Combined {
+    Of { start: Side, end: Side },
+    Nothing,
+}
+
+impl Combined {
+    fn when(given: bool, start: Side, end: Side) -> Self
+        ensures { λ r. ⌜ r ≡ cond given (Combined.Of start end) Combined.Nothing ⌝ }
+    {
+        if given {
+            return Combined::Of { start, end };
+        }
+        Combined::Nothing
+    }
+
+    pub fn is_given(self) -> bool
+        ensures { λ r. ⌜ r ≡ isGiven self ⌝ }
+    {
+        match self {
+            Combined::Of { start: _, end: _ } => true,
+            Combined::Nothing => false,
+        }
+    }
+
+    // The same answer with the two ranges named the other way round.
+    fn swapped(self) -> Self
+        ensures { λ r. ⌜ r ≡ swapSides self ⌝ }
+    {
+        match self {
+            Combined::Of { start, end } => Combined::Of {
+                start: start.other(),
+                end: end.other(),
+            },
+            Combined::Nothing => Combined::Nothing,
+        }
+    }
+}
+
+// A pair of bounds: the kinds, with the keys in slices beside them.
+pub struct ComparableRange {
+    pub start: Kind,
+    pub end: Kind,
+}
+
+impl ComparableRange {
+    pub const ALL: ComparableRange = ComparableRange {
+        start: Kind::Unbounded,
+        end: Kind::Unbounded,
+    };
+
+    pub fn new(start: Kind, end: Kind) -> Self
+        ensures { λ r. ⌜ (r .start ≡ start) × (r .end ≡ end) ⌝ }
+    {
+        ComparableRange { start, end }
+    }
+
+    // The derived order: by start and then by end.
+    pub fn compare(
+        self,
+        start_key: &[u8],
+        end_key: &[u8],
+        other: ComparableRange,
+        other_start_key: &[u8],
+        other_end_key: &[u8],
+    ) -> i8
+        ensures { λ r. ⌜ r ≡ sign (rangeOrder (rangeOf self (now («start_key» .entry)) (now («end_key» .entry))) (rangeOf other (now («other_start_key» .entry)) (now («other_end_key» .entry)))) ⌝ }
+    {
+        let a = self.start;
+        let b = other.start;
+        let o = a.compare_start(start_key, b, other_start_key);
+        if o == 0 {
+            let c = self.end;
+            let d = other.end;
+            return c.compare_end(end_key, d, other_end_key);
+        }
+        o
+    }
+
+    pub fn intersect<'a>(
+        self,
+        start_key: &'a [u8],
+        end_key: &'a [u8],
+        other: ComparableRange,
+        other_start_key: &'a [u8],
+        other_end_key: &'a [u8],
+    ) -> Combined
+        ensures { λ r. ⌜ r ≡ intersectOf (rangeOf self (now («start_key» .entry)) (now («end_key» .entry))) (rangeOf other (now («other_start_key» .entry)) (now («other_end_key» .entry))) ⌝ }
+    {
+        let a = self.start;
+        let b = other.start;
+        let c = self.end;
+        let d = other.end;
+        let start = max_start(a, start_key, b, other_start_key);
+        let end = min_end(c, end_key, d, other_end_key);
+        let range = ComparableRange::new(start.kind(a, b), end.kind(c, d));
+        Combined::when(
+            range.non_empty(
+                start.key(start_key, other_start_key),
+                end.key(end_key, other_end_key),
+            ),
+            start,
+            end,
+        )
+    }
+
+    pub fn union<'a>(
+        self,
+        start_key: &'a [u8],
+        end_key: &'a [u8],
+        other: ComparableRange,
+        other_start_key: &'a [u8],
+        other_end_key: &'a [u8],
+    ) -> Combined
+        ensures { λ r. ⌜ r ≡ unionOf (rangeOf self (now («start_key» .entry)) (now («end_key» .entry))) (rangeOf other (now («other_start_key» .entry)) (now («other_end_key» .entry))) ⌝ }
+    {
+        if self.compare(start_key, end_key, other, other_start_key, other_end_key) < 0 {
+            return self.join(start_key, end_key, other, other_start_key, other_end_key);
+        }
+        let joined = other.join(other_start_key, other_end_key, self, start_key, end_key);
+        joined.swapped()
+    }
+
+    // The union of a first range with a second one.
+    fn join<'a>(
+        self,
+        start_key: &'a [u8],
+        end_key: &'a [u8],
+        other: ComparableRange,
+        other_start_key: &'a [u8],
+        other_end_key: &'a [u8],
+    ) -> Combined
+        ensures { λ r. ⌜ r ≡ joinOf (rangeOf self (now («start_key» .entry)) (now («end_key» .entry))) (rangeOf other (now («other_start_key» .entry)) (now («other_end_key» .entry))) ⌝ }
+    {
+        let a = self.end;
+        let b = other.end;
+        let end = max_end(a, end_key, b, other_end_key);
+        let shared = self.intersect(start_key, end_key, other, other_start_key, other_end_key);
+        if shared.is_given() {
+            return Combined::when(true, Side::First, end);
+        }
+        Combined::when(
+            self.are_adjacent(end_key, other, other_start_key),
+            Side::First,
+            end,
+        )
+    }
+
+    // Whether this range's end and the other's start hold equal keys, one included and one excluded.
+    pub fn are_adjacent(
+        self,
+        end_key: &[u8],
+        other: ComparableRange,
+        other_start_key: &[u8],
+    ) -> bool
+        ensures { λ r. ⌜ r ≡ touchesPair (bound (self .end) (now («end_key» .entry))) (bound (other .start) (now («other_start_key» .entry))) ⌝ }
+    {
+        let end = self.end;
+        let start = other.start;
+        match end {
+            Kind::Unbounded => false,
+            Kind::Included => match start {
+                Kind::Unbounded => false,
+                Kind::Included => false,
+                Kind::Excluded => keys::equal(end_key, other_start_key),
+            },
+            Kind::Excluded => match start {
+                Kind::Unbounded => false,
+                Kind::Included => keys::equal(end_key, other_start_key),
+                Kind::Excluded => false,
+            },
+        }
+    }
+
+    pub fn non_empty(self, start_key: &[u8], end_key: &[u8]) -> bool
+        ensures { λ r. ⌜ r ≡ notEmpty (rangeOf self (now («start_key» .entry)) (now («end_key» .entry))) ⌝ }
+    {
+        let start = self.start;
+        let end = self.end;
+        match start {
+            Kind::Unbounded => true,
+            Kind::Included => match end {
+                Kind::Unbounded => true,
+                Kind::Included => keys::compare(start_key, end_key) <= 0,
+                Kind::Excluded => keys::compare(start_key, end_key) < 0,
+            },
+            Kind::Excluded => match end {
+                Kind::Unbounded => true,
+                Kind::Included => keys::compare(start_key, end_key) < 0,
+                Kind::Excluded => keys::compare(start_key, end_key) < 0,
+            },
+        }
+    }
+
+    // Rust's `RangeBounds::contains`.
+    pub fn contains(self, start_key: &[u8], end_key: &[u8], key: &[u8]) -> bool
+        ensures { λ r. ⌜ r ≡ holds (rangeOf self (now («start_key» .entry)) (now («end_key» .entry))) (now (key .entry)) ⌝ }
+    {
+        let start = self.start;
+        let end = self.end;
+        start.admits_from(start_key, key) && end.admits_to(end_key, key)
+    }
+}

@@ -1,0 +1,59 @@
+use borrow.Author.Needs.{needs}
+use mathlib.Core.Path.{sym, ap, _∙_}
+use native.Mathlib.Omega.{arith}
+use denote.Ref.{now}
+use Rattle.bounds.specs.Bounds.{bound}
+use Rattle.ranges.specs.Prefixes.{subStart, subEnd}
+use Rattle.ranges.proofs.Between.{long-start, long-prefix, sized}
+use Rattle.ranges.proofs.bytes_range.BytesRange.from_prefix_and_subrange.Statement.{
+  statement,
+}
+use Rattle.ranges.proofs.bytes_range.BytesRange.from_prefix_and_subrange.Tie as tie
+use Rattle.ranges.proofs.bytes_range.BytesRange.from_prefix_and_subrange.Reads as reads
+use Rattle.ranges.proofs.bytes_range.BytesRange.from_prefix_and_subrange.Lts as lts
+use Rattle.ranges.proofs.bytes_range.MadeRange.between.Reads as between-reads
+use Rattle.ranges.proofs.bytes_range.MadeRange.refused.Reads as refused-reads
+use Rattle.ranges.proofs.bytes_range.end_of.Reads as end-of-reads
+use Rattle.ranges.proofs.bytes_range.start_of.Reads as start-of-reads
+
+-- src/bytes_range.rt:276:13
+refused-requires : tie.Need-refused-requires
+refused-requires c κs = search needs
+
+-- src/bytes_range.rt:276:13
+returns : tie.Need-returns
+returns c =
+    let x = c .before .before .before .before .before .args in
+    c .refused .ensures
+    ∙ long-start (subStart (now (x .prefix)) (bound (x .subrange .start) (now (x .start-suffix)))) (subEnd (now (x .prefix)) (bound (x .subrange .end) (now (x .end-suffix)))) (long-prefix (now (x .prefix)) (bound (x .subrange .start) (now (x .start-suffix))) (omega arith))
+
+-- src/bytes_range.rt:280:13
+start-of-requires : tie.Need-start-of-requires
+start-of-requires c κs = search needs
+
+-- src/bytes_range.rt:281:13
+end-of-requires : tie.Need-end-of-requires
+end-of-requires c κs = search needs
+
+-- src/bytes_range.rt:282:9
+between-requires : tie.Need-between-requires
+between-requires c κs =
+    let x = c .before .before .before .before .before .before .args in
+    (sized (subStart (now (x .prefix)) (bound (x .subrange .start) (now (x .start-suffix)))) (c .before .start-of .ensures), sized (subEnd (now (x .prefix)) (bound (x .subrange .end) (now (x .end-suffix)))) (c .end-of .ensures))
+
+-- src/bytes_range.rt:267:5
+returns-2 : tie.Need-returns-2
+returns-2 c =
+    let x = c .before .before .before .before .before .before .before .args in
+    c .between .ensures (subStart (now (x .prefix)) (bound (x .subrange .start) (now (x .start-suffix)))) (subEnd (now (x .prefix)) (bound (x .subrange .end) (now (x .end-suffix)))) (c .before .before .start-of .ensures) (c .before .end-of .ensures)
+
+pub from-prefix-and-subrange-spec : {M : Type 1} → statement M
+from-prefix-and-subrange-spec =
+    tie.close
+    (tie.spec
+    refused-requires
+    returns
+    start-of-requires
+    end-of-requires
+    between-requires
+    returns-2)

@@ -1,0 +1,320 @@
+ghost use mathlib.Core.Path.{_≡_};
+ghost use mathlib.Core.List.{[], _++_};
+ghost use Prim.Native.Nat.{_+_, _≤_, _<_, _-_};
+ghost use lib.ListN.{length, getD};
+ghost use lib.Seq.{paste};
+ghost use Rattle.keys.specs.Limit.{keyLimit};
+ghost use Rattle.bounds.specs.Bounds.{Bound, bound, unbounded};
+ghost use Rattle.bounds.specs.Ranges.{range, rangeOf, everything, holds, isPoint};
+ghost use Rattle.ranges.specs.Prefixes.{increment, endAt, prefixRange, subrangeOf, subStart, subEnd};
+ghost use Rattle.ranges.specs.Making.{Sized, isDone, tooLong, newOf, padded, made, madeBound, madeIncrement, madeRange, madeAs};
+use bounds::comparable_range::ComparableRange;
+use bounds::comparable_range::Kind;
+use keys::KEY_LIMIT;
+
+// How the making of a range or of a key ended: document 01's statuses 0, 4 and 5.
+pub enum Making {
+    Done,
+    TooLong,
+    Empty,
+}
+
+impl Making {
+    pub fn is_done(self) -> bool
+        ensures { λ r. ⌜ r ≡ isDone self ⌝ }
+    {
+        match self {
+            Making::Done => true,
+            Making::TooLong => false,
+            Making::Empty => false,
+        }
+    }
+}
+
+// A bound whose key was made: the first len of the bytes, with zeros after them.
+pub struct MadeBound {
+    pub kind: Kind,
+    pub len: usize,
+    pub bytes: [u8; KEY_LIMIT],
+}
+
+pub struct Made {
+    pub making: Making,
+    pub bound: MadeBound,
+}
+
+pub struct MadeRange {
+    pub making: Making,
+    pub start: MadeBound,
+    pub end: MadeBound,
+}
+
+// A made key of no bytes.
+fn zeros() -> [u8; KEY_LIMIT]
+    ensures { λ r. ⌜ r ≡ padded [] ⌝ }
+{
+    [0u8; KEY_LIMIT]
+}
+
+impl Made {
+    // Refused, or none: unbounded, with length 0.
+    fn nothing(making: Making) -> Self
+        ensures { λ r. ⌜ r ≡ made making unbounded ⌝ }
+    {
+        let bytes = zeros();
+        let bound = MadeBound {
+            kind: Kind::UNBOUNDED,
+            len: 0,
+            bytes,
+        };
+        Made { making, bound }
+    }
+}
+
+impl MadeRange {
+    fn refused(making: Making) -> Self
+        ensures { λ r. ⌜ r ≡ madeAs making unbounded unbounded ⌝ }
+    {
+        let nothing = Made::nothing(making);
+        let start = nothing.bound;
+        let end = nothing.bound;
+        MadeRange { making, start, end }
+    }
+
+    // The range between two made bounds, if both could be made and it is not empty.
+    fn between(start: Made, end: Made) -> Self
+        requires { ⌜ Sized start × Sized end ⌝ }
+        ensures { λ r. ⌜ ((s e : Bound) → start ≡ madeBound s → end ≡ madeBound e → r ≡ madeRange (range s e)) ⌝ }
+    {
+        let a = start.making;
+        if !a.is_done() {
+            return MadeRange::refused(Making::TooLong);
+        }
+        let b = end.making;
+        if !b.is_done() {
+            return MadeRange::refused(Making::TooLong);
+        }
+        let s = start.bound;
+        let k = s.kind;
+        let n = s.len;
+        let x = s.bytes;
+        let e = end.bound;
+        let l = e.kind;
+        let m = e.len;
+        let y = e.bytes;
+        let making = BytesRange::new(k, &x[..n], l, &y[..m]);
+        if making.is_done() {
+            return MadeRange {
+                making: Making::Done,
+                start: s,
+                end: e,
+            };
+        }
+        MadeRange::refused(making)
+    }
+}
+
+// The bytes with those of src put at a place.
+fn with_bytes(bytes: [u8; KEY_LIMIT], at: usize, src: &[u8]) -> [u8; KEY_LIMIT]
+    requires { ⌜ at + length (now src) ≤ keyLimit ⌝ }
+    ensures { λ r. ⌜ r ≡ paste bytes at (now (src .entry)) (length (now (src .entry))) ⌝ }
+{
+    let mut out = bytes;
+    let mut i = 0;
+    while i < src.len() {
+        out[at + i] = src[i];
+        i += 1;
+    }
+    out
+}
+
+// The bound of a key that is a prefix and what stands after it.
+fn joined(kind: Kind, prefix: &[u8], suffix: &[u8]) -> Made
+    ensures { λ r. ⌜ r ≡ madeBound (bound kind (now (prefix .entry) ++ now (suffix .entry))) ⌝ }
+{
+    if !kind.bounded() {
+        return Made::nothing(Making::Done);
+    }
+    if KEY_LIMIT < prefix.len() {
+        return Made::nothing(Making::TooLong);
+    }
+    if KEY_LIMIT - prefix.len() < suffix.len() {
+        return Made::nothing(Making::TooLong);
+    }
+    let front = with_bytes(zeros(), 0, prefix);
+    let bytes = with_bytes(front, prefix.len(), suffix);
+    let bound = MadeBound {
+        kind,
+        len: prefix.len() + suffix.len(),
+        bytes,
+    };
+    Made {
+        making: Making::Done,
+        bound,
+    }
+}
+
+// The increment of a prefix whose last byte is not ff.
+fn raised(prefix: &[u8]) -> Made
+    requires { ⌜ (length (now prefix) ≤ keyLimit) × (0 < length (now prefix)) × (getD (now prefix) (length (now prefix) - 1) 0 < 255) ⌝ }
+    ensures { λ r. ⌜ r ≡ made Making.Done (endAt (increment (now (prefix .entry)))) ⌝ }
+{
+    let mut bytes = with_bytes(zeros(), 0, prefix);
+    let last = prefix.len() - 1;
+    bytes[last] = prefix[last] + 1;
+    let bound = MadeBound {
+        kind: Kind::Excluded,
+        len: prefix.len(),
+        bytes,
+    };
+    Made {
+        making: Making::Done,
+        bound,
+    }
+}
+
+// The increment of a prefix whose last byte is ff is the increment of what stands before it; none at length zero.
+fn increment(prefix: &[u8]) -> Made
+    requires { ⌜ length (now prefix) ≤ keyLimit ⌝ }
+    ensures { λ r. ⌜ r ≡ made Making.Done (endAt (increment (now (prefix .entry)))) ⌝ }
+{
+    if prefix.len() == 0 {
+        return Made::nothing(Making::Done);
+    }
+    let last = prefix.len() - 1;
+    if prefix[last] == 255 {
+        return increment(&prefix[..last]);
+    }
+    raised(prefix)
+}
+
+// The start of a prefix's subrange: unbounded is from the bare prefix on, which everything has if it is empty.
+fn start_of(prefix: &[u8], start: Kind, suffix: &[u8]) -> Made
+    ensures { λ r. ⌜ r ≡ madeBound (subStart (now (prefix .entry)) (bound start (now (suffix .entry)))) ⌝ }
+{
+    if start.bounded() {
+        return joined(start, prefix, suffix);
+    }
+    if prefix.len() == 0 {
+        return Made::nothing(Making::Done);
+    }
+    joined(Kind::Included, prefix, &suffix[..0])
+}
+
+// The end of a prefix's subrange: unbounded is up to the prefix's increment.
+fn end_of(prefix: &[u8], end: Kind, suffix: &[u8]) -> Made
+    requires { ⌜ length (now prefix) ≤ keyLimit ⌝ }
+    ensures { λ r. ⌜ r ≡ madeBound (subEnd (now (prefix .entry)) (bound end (now (suffix .entry)))) ⌝ }
+{
+    if end.bounded() {
+        return joined(end, prefix, suffix);
+    }
+    increment(prefix)
+}
+
+fn too_long(kind: Kind, key: &[u8]) -> bool
+    ensures { λ r. ⌜ r ≡ tooLong (bound kind (now (key .entry))) ⌝ }
+{
+    kind.bounded() && KEY_LIMIT < key.len()
+}
+
+// A range of keys: a pair of bounds, with the keys in slices beside it.
+pub struct BytesRange {
+    pub inner: ComparableRange,
+}
+
+impl BytesRange {
+    pub const ALL: BytesRange = BytesRange {
+        inner: ComparableRange::ALL,
+    };
+
+    // Whether a pair of bounds makes a range: the source's assertion, with the added limit before it.
+    pub fn new(start: Kind, start_key: &[u8], end: Kind, end_key: &[u8]) -> Making
+        ensures { λ r. ⌜ r ≡ newOf (range (bound start (now («start_key» .entry))) (bound end (now («end_key» .entry)))) ⌝ }
+    {
+        if too_long(start, start_key) {
+            return Making::TooLong;
+        }
+        if too_long(end, end_key) {
+            return Making::TooLong;
+        }
+        let inner = ComparableRange::new(start, end);
+        if inner.non_empty(start_key, end_key) {
+            return Making::Done;
+        }
+        Making::Empty
+    }
+
+    pub fn unbounded() -> Self
+        ensures { λ r. ⌜ (r .inner .start ≡ Kind.Unbounded) × (r .inner .end ≡ Kind.Unbounded) ⌝ }
+    {
+        BytesRange::ALL
+    }
+
+    // The range of all keys that start with a prefix: the whole key space within it.
+    pub fn from_prefix(prefix: &[u8]) -> MadeRange
+        ensures { λ r. ⌜ r ≡ madeRange (prefixRange (now (prefix .entry))) ⌝ }
+    {
+        BytesRange::from_prefix_and_subrange(
+            prefix,
+            ComparableRange::ALL,
+            &prefix[..0],
+            &prefix[..0],
+        )
+    }
+
+    // The keys that start with a prefix and go on with a suffix of the subrange.
+    pub fn from_prefix_and_subrange(
+        prefix: &[u8],
+        subrange: ComparableRange,
+        start_suffix: &[u8],
+        end_suffix: &[u8],
+    ) -> MadeRange
+        ensures { λ r. ⌜ r ≡ madeRange (subrangeOf (now (prefix .entry)) (rangeOf subrange (now («start_suffix» .entry)) (now («end_suffix» .entry)))) ⌝ }
+    {
+        if KEY_LIMIT < prefix.len() {
+            return MadeRange::refused(Making::TooLong);
+        }
+        let s = subrange.start;
+        let e = subrange.end;
+        let start = start_of(prefix, s, start_suffix);
+        let end = end_of(prefix, e, end_suffix);
+        MadeRange::between(start, end)
+    }
+
+    // The smallest byte string above all that start with a prefix, as an excluded end; none is unbounded.
+    pub fn increment_prefix(prefix: &[u8]) -> Made
+        ensures { λ r. ⌜ r ≡ madeIncrement (now (prefix .entry)) ⌝ }
+    {
+        if KEY_LIMIT < prefix.len() {
+            return Made::nothing(Making::TooLong);
+        }
+        increment(prefix)
+    }
+
+    // Rust's `RangeBounds::contains`.
+    pub fn contains(self, start_key: &[u8], end_key: &[u8], key: &[u8]) -> bool
+        ensures { λ r. ⌜ r ≡ holds (rangeOf (self .inner) (now («start_key» .entry)) (now («end_key» .entry))) (now (key .entry)) ⌝ }
+    {
+        let inner = self.inner;
+        inner.contains(start_key, end_key, key)
+    }
+
+    // Whether the range is a point, which is then its start's key.
+    pub fn as_point(self, start_key: &[u8], end_key: &[u8]) -> bool
+        ensures { λ r. ⌜ r ≡ isPoint (rangeOf (self .inner) (now («start_key» .entry)) (now («end_key» .entry))) ⌝ }
+    {
+        let inner = self.inner;
+        let start = inner.start;
+        let end = inner.end;
+        match start {
+            Kind::Unbounded => false,
+            Kind::Included => match end {
+                Kind::Unbounded => false,
+                Kind::Included => keys::equal(start_key, end_key),
+                Kind::Excluded => false,
+            },
+            Kind::Excluded => false,
+        }
+    }
+}

@@ -1,0 +1,2 @@
+// Ranges of keys: what `src/bytes_range.rs` has, over lent slices and made keys by value.
+pub mod bytes_range;
