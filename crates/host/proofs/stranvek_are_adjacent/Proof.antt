@@ -1,0 +1,33 @@
+use borrow.Author.Needs.{needs}
+use Rattle.bounds.specs.Ranges.{rangeOf, touches}
+use mathlib.Core.Path.{sym, ap, _∙_}
+use denote.Ref.{now}
+use Rattle.host.specs.Boundary.{told}
+use Rattle.host.proofs.stranvek_are_adjacent.Statement.{statement}
+use Rattle.host.proofs.stranvek_are_adjacent.Tie as tie
+use Rattle.host.proofs.stranvek_are_adjacent.Reads as reads
+use Rattle.host.proofs.stranvek_are_adjacent.Lts as lts
+use Rattle.bounds.proofs.comparable_range.ComparableRange.are_adjacent.Reads as are-adjacent-reads
+use Rattle.host.proofs.range_at.Reads as range-at-reads
+
+-- src/lib.rt:293:9
+range-at-requires : tie.Need-range-at-requires
+range-at-requires c κs = search needs
+
+-- src/lib.rt:294:9
+range-at-requires-2 : tie.Need-range-at-requires-2
+range-at-requires-2 c κs = search needs
+
+-- src/lib.rt:297:16
+are-adjacent-requires : tie.Need-are-adjacent-requires
+are-adjacent-requires c κs = search needs
+
+-- src/lib.rt:280:1
+returns : tie.Need-returns
+returns c =
+    let x = c .before .before .before .before .before .before .before .args in
+    ap told (c .are-adjacent .ensures ∙ (λ i. touches (rangeOf (c .before .before .range-at .ensures i) (now (x .start-key)) (now (x .end-key))) (rangeOf (c .before .range-at2 .ensures i) (now (x .other-start-key)) (now (x .other-end-key)))))
+
+pub stranvek-are-adjacent-spec : {M : Type 1} → statement M
+stranvek-are-adjacent-spec =
+    tie.close (tie.spec range-at-requires range-at-requires-2 are-adjacent-requires returns)

@@ -1,0 +1,35 @@
+use borrow.Author.Needs.{needs}
+use Rattle.keys.specs.Order.{sign}
+use Rattle.bounds.specs.Bounds.{bound, endOrder}
+use Rattle.host.specs.Boundary.{boundAt}
+use mathlib.Core.Path.{sym, ap, _∙_}
+use denote.Ref.{now}
+use Rattle.host.proofs.Answers.{compare-answer}
+use Rattle.host.proofs.stranvek_compare_end.Statement.{statement}
+use Rattle.host.proofs.stranvek_compare_end.Tie as tie
+use Rattle.host.proofs.stranvek_compare_end.Reads as reads
+use Rattle.host.proofs.stranvek_compare_end.Lts as lts
+use Rattle.bounds.proofs.comparable_range.Kind.compare_end.Reads as compare-end-reads
+use Rattle.host.proofs.kind_at.Reads as kind-at-reads
+
+-- src/lib.rt:219:9
+kind-at-requires : tie.Need-kind-at-requires
+kind-at-requires c κs = search needs
+
+-- src/lib.rt:222:37
+kind-at-requires-2 : tie.Need-kind-at-requires-2
+kind-at-requires-2 c κs = search needs
+
+-- src/lib.rt:222:16
+compare-end-requires : tie.Need-compare-end-requires
+compare-end-requires c κs = search needs
+
+-- src/lib.rt:210:1
+returns : tie.Need-returns
+returns c =
+    let x = c .before .before .before .before .before .args in
+    compare-answer (endOrder (boundAt (x .a-kind) (now (x .a-key))) (boundAt (x .b-kind) (now (x .b-key)))) (c .compare-end .ensures ∙ (λ i. sign (endOrder (bound (c .before .before .kind-at .ensures i) (now (x .a-key))) (bound (c .before .kind-at2 .ensures i) (now (x .b-key))))))
+
+pub stranvek-compare-end-spec : {M : Type 1} → statement M
+stranvek-compare-end-spec =
+    tie.close (tie.spec kind-at-requires kind-at-requires-2 compare-end-requires returns)

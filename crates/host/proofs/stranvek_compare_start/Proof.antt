@@ -1,0 +1,35 @@
+use borrow.Author.Needs.{needs}
+use Rattle.keys.specs.Order.{sign}
+use Rattle.bounds.specs.Bounds.{bound, startOrder}
+use Rattle.host.specs.Boundary.{boundAt}
+use mathlib.Core.Path.{sym, ap, _∙_}
+use denote.Ref.{now}
+use Rattle.host.proofs.Answers.{compare-answer}
+use Rattle.host.proofs.stranvek_compare_start.Statement.{statement}
+use Rattle.host.proofs.stranvek_compare_start.Tie as tie
+use Rattle.host.proofs.stranvek_compare_start.Reads as reads
+use Rattle.host.proofs.stranvek_compare_start.Lts as lts
+use Rattle.bounds.proofs.comparable_range.Kind.compare_start.Reads as compare-start-reads
+use Rattle.host.proofs.kind_at.Reads as kind-at-reads
+
+-- src/lib.rt:203:9
+kind-at-requires : tie.Need-kind-at-requires
+kind-at-requires c κs = search needs
+
+-- src/lib.rt:206:39
+kind-at-requires-2 : tie.Need-kind-at-requires-2
+kind-at-requires-2 c κs = search needs
+
+-- src/lib.rt:206:16
+compare-start-requires : tie.Need-compare-start-requires
+compare-start-requires c κs = search needs
+
+-- src/lib.rt:194:1
+returns : tie.Need-returns
+returns c =
+    let x = c .before .before .before .before .before .args in
+    compare-answer (startOrder (boundAt (x .a-kind) (now (x .a-key))) (boundAt (x .b-kind) (now (x .b-key)))) (c .compare-start .ensures ∙ (λ i. sign (startOrder (bound (c .before .before .kind-at .ensures i) (now (x .a-key))) (bound (c .before .kind-at2 .ensures i) (now (x .b-key))))))
+
+pub stranvek-compare-start-spec : {M : Type 1} → statement M
+stranvek-compare-start-spec =
+    tie.close (tie.spec kind-at-requires kind-at-requires-2 compare-start-requires returns)
