@@ -1,2 +1,3 @@
 // Bounds and pairs of bounds: what `src/comparable_range.rs` has for any ordered type, for byte keys.
 pub mod comparable_range;
+pub mod kind;

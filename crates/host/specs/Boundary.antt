@@ -5,8 +5,8 @@ use mathlib.Core.List.{List}
 use mathlib.Core.Ordering.{Ordering}
 use lib.Dec.{eqb}
 use Rattle.keys.specs.Order.{sign}
-use Rattle.bounds.specs.declared.comparable_range.Kind.{Kind}
-use Rattle.bounds.specs.declared.comparable_range.Kind.the-variants.{Unbounded, Included, Excluded}
+use Rattle.bounds.specs.declared.kind.Kind.{Kind}
+use Rattle.bounds.specs.declared.kind.Kind.the-variants.{Unbounded, Included, Excluded}
 use Rattle.bounds.specs.declared.comparable_range.Side.{Side}
 use Rattle.bounds.specs.declared.comparable_range.Side.the-variants.{First, Second}
 use Rattle.bounds.specs.declared.comparable_range.Combined.{Combined}
@@ -20,13 +20,13 @@ use Rattle.ranges.specs.declared.bytes_range.MadeBound.{MadeBound}
 use Rattle.ranges.specs.declared.bytes_range.Made.{Made}
 use Rattle.ranges.specs.declared.bytes_range.MadeRange.{MadeRange}
 use Rattle.ranges.specs.Making.{status}
-use Rattle.host.specs.declared.Compared.{Compared}
-use Rattle.host.specs.declared.Told.{Told}
-use Rattle.host.specs.declared.Pair.{Pair}
-use Rattle.host.specs.declared.NewRange.{NewRange}
-use Rattle.host.specs.declared.Key.{Key}
-use Rattle.host.specs.declared.MadeKey.{MadeKey}
-use Rattle.host.specs.declared.MadeKeys.{MadeKeys}
+use Rattle.host.specs.declared.answers.Compared.{Compared}
+use Rattle.host.specs.declared.answers.Told.{Told}
+use Rattle.host.specs.declared.answers.Pair.{Pair}
+use Rattle.host.specs.declared.answers.NewRange.{NewRange}
+use Rattle.host.specs.declared.answers.Key.{Key}
+use Rattle.host.specs.declared.answers.MadeKey.{MadeKey}
+use Rattle.host.specs.declared.answers.MadeKeys.{MadeKeys}
 
 -- "tag 10 unbounded, 11 included, 12 excluded"; a number that names no kind is the widest one
 abbrev pub kindAt : ℕ → Kind

@@ -9,7 +9,7 @@ ghost use Rattle.bounds.specs.Ranges.{range, rangeOf, everything, holds, isPoin
 ghost use Rattle.ranges.specs.Prefixes.{increment, endAt, prefixRange, subrangeOf, subStart, subEnd};
 ghost use Rattle.ranges.specs.Making.{Sized, isDone, tooLong, newOf, padded, made, madeBound, madeIncrement, madeRange, madeAs};
 use bounds::comparable_range::ComparableRange;
-use bounds::comparable_range::Kind;
+use bounds::kind::Kind;
 use keys::KEY_LIMIT;
 
 // How the making of a range or of a key ended: document 01's statuses 0, 4 and 5.

@@ -8,7 +8,7 @@ use Rattle.host.proofs.stranvek_are_adjacent.Tie as tie
 use Rattle.host.proofs.stranvek_are_adjacent.Reads as reads
 use Rattle.host.proofs.stranvek_are_adjacent.Lts as lts
 use Rattle.bounds.proofs.comparable_range.ComparableRange.are_adjacent.Reads as are-adjacent-reads
-use Rattle.host.proofs.range_at.Reads as range-at-reads
+use Rattle.host.proofs.answers.range_at.Reads as range-at-reads
 
 -- src/lib.rt:293:9
 range-at-requires : tie.Need-range-at-requires

@@ -7,7 +7,7 @@ use Rattle.host.proofs.stranvek_as_point.Statement.{statement}
 use Rattle.host.proofs.stranvek_as_point.Tie as tie
 use Rattle.host.proofs.stranvek_as_point.Reads as reads
 use Rattle.host.proofs.stranvek_as_point.Lts as lts
-use Rattle.host.proofs.range_at.Reads as range-at-reads
+use Rattle.host.proofs.answers.range_at.Reads as range-at-reads
 use Rattle.ranges.proofs.bytes_range.BytesRange.as_point.Reads as as-point-reads
 
 -- src/lib.rt:355:16

@@ -2,7 +2,7 @@ use borrow.Author.Needs.{needs}
 use Rattle.keys.specs.Order.{order}
 use mathlib.Core.Path.{sym, ap, _∙_}
 use denote.Ref.{now}
-use Rattle.host.proofs.Answers.{compare-answer}
+use Rattle.host.proofs.AnswerLaws.{compare-answer}
 use Rattle.host.proofs.stranvek_compare.Statement.{statement}
 use Rattle.host.proofs.stranvek_compare.Tie as tie
 use Rattle.host.proofs.stranvek_compare.Reads as reads

@@ -4,13 +4,13 @@ use Rattle.bounds.specs.Bounds.{bound, endOrder}
 use Rattle.host.specs.Boundary.{boundAt}
 use mathlib.Core.Path.{sym, ap, _∙_}
 use denote.Ref.{now}
-use Rattle.host.proofs.Answers.{compare-answer}
+use Rattle.host.proofs.AnswerLaws.{compare-answer}
 use Rattle.host.proofs.stranvek_compare_end.Statement.{statement}
 use Rattle.host.proofs.stranvek_compare_end.Tie as tie
 use Rattle.host.proofs.stranvek_compare_end.Reads as reads
 use Rattle.host.proofs.stranvek_compare_end.Lts as lts
-use Rattle.bounds.proofs.comparable_range.Kind.compare_end.Reads as compare-end-reads
-use Rattle.host.proofs.kind_at.Reads as kind-at-reads
+use Rattle.bounds.proofs.kind.Kind.compare_end.Reads as compare-end-reads
+use Rattle.host.proofs.answers.kind_at.Reads as kind-at-reads
 
 -- src/lib.rt:219:9
 kind-at-requires : tie.Need-kind-at-requires

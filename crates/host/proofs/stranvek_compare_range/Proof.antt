@@ -4,13 +4,13 @@ use Rattle.bounds.specs.Ranges.{rangeOf, rangeOrder}
 use Rattle.host.specs.Boundary.{rangeAt}
 use mathlib.Core.Path.{sym, ap, _∙_}
 use denote.Ref.{now}
-use Rattle.host.proofs.Answers.{compare-answer}
+use Rattle.host.proofs.AnswerLaws.{compare-answer}
 use Rattle.host.proofs.stranvek_compare_range.Statement.{statement}
 use Rattle.host.proofs.stranvek_compare_range.Tie as tie
 use Rattle.host.proofs.stranvek_compare_range.Reads as reads
 use Rattle.host.proofs.stranvek_compare_range.Lts as lts
 use Rattle.bounds.proofs.comparable_range.ComparableRange.compare.Reads as compare-reads
-use Rattle.host.proofs.range_at.Reads as range-at-reads
+use Rattle.host.proofs.answers.range_at.Reads as range-at-reads
 
 -- src/lib.rt:239:9
 range-at-requires : tie.Need-range-at-requires

@@ -4,13 +4,13 @@ use Rattle.bounds.specs.Bounds.{bound, startOrder}
 use Rattle.host.specs.Boundary.{boundAt}
 use mathlib.Core.Path.{sym, ap, _∙_}
 use denote.Ref.{now}
-use Rattle.host.proofs.Answers.{compare-answer}
+use Rattle.host.proofs.AnswerLaws.{compare-answer}
 use Rattle.host.proofs.stranvek_compare_start.Statement.{statement}
 use Rattle.host.proofs.stranvek_compare_start.Tie as tie
 use Rattle.host.proofs.stranvek_compare_start.Reads as reads
 use Rattle.host.proofs.stranvek_compare_start.Lts as lts
-use Rattle.bounds.proofs.comparable_range.Kind.compare_start.Reads as compare-start-reads
-use Rattle.host.proofs.kind_at.Reads as kind-at-reads
+use Rattle.bounds.proofs.kind.Kind.compare_start.Reads as compare-start-reads
+use Rattle.host.proofs.answers.kind_at.Reads as kind-at-reads
 
 -- src/lib.rt:203:9
 kind-at-requires : tie.Need-kind-at-requires

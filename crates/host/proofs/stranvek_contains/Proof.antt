@@ -8,7 +8,7 @@ use Rattle.host.proofs.stranvek_contains.Tie as tie
 use Rattle.host.proofs.stranvek_contains.Reads as reads
 use Rattle.host.proofs.stranvek_contains.Lts as lts
 use Rattle.bounds.proofs.comparable_range.ComparableRange.contains.Reads as contains-reads
-use Rattle.host.proofs.range_at.Reads as range-at-reads
+use Rattle.host.proofs.answers.range_at.Reads as range-at-reads
 
 -- src/lib.rt:273:9
 range-at-requires : tie.Need-range-at-requires

@@ -5,7 +5,7 @@ use Rattle.host.proofs.stranvek_from_prefix.Statement.{statement}
 use Rattle.host.proofs.stranvek_from_prefix.Tie as tie
 use Rattle.host.proofs.stranvek_from_prefix.Reads as reads
 use Rattle.host.proofs.stranvek_from_prefix.Lts as lts
-use Rattle.host.proofs.keys_of.Reads as keys-of-reads
+use Rattle.host.proofs.answers.keys_of.Reads as keys-of-reads
 use Rattle.ranges.proofs.bytes_range.BytesRange.from_prefix.Reads as from-prefix-reads
 
 -- src/lib.rt:419:13

@@ -9,8 +9,8 @@ use Rattle.host.proofs.stranvek_from_prefix_and_subrange.Statement.{sta
 use Rattle.host.proofs.stranvek_from_prefix_and_subrange.Tie as tie
 use Rattle.host.proofs.stranvek_from_prefix_and_subrange.Reads as reads
 use Rattle.host.proofs.stranvek_from_prefix_and_subrange.Lts as lts
-use Rattle.host.proofs.keys_of.Reads as keys-of-reads
-use Rattle.host.proofs.range_at.Reads as range-at-reads
+use Rattle.host.proofs.answers.keys_of.Reads as keys-of-reads
+use Rattle.host.proofs.answers.range_at.Reads as range-at-reads
 use Rattle.ranges.proofs.bytes_range.BytesRange.from_prefix_and_subrange.Reads as from-prefix-and-subrange-reads
 
 -- src/lib.rt:432:9

@@ -6,8 +6,8 @@ use Rattle.host.proofs.stranvek_increment_prefix.Statement.{statement}
 use Rattle.host.proofs.stranvek_increment_prefix.Tie as tie
 use Rattle.host.proofs.stranvek_increment_prefix.Reads as reads
 use Rattle.host.proofs.stranvek_increment_prefix.Lts as lts
-use Rattle.host.proofs.key_of.Reads as key-of-reads
-use Rattle.host.proofs.status_of.Reads as status-of-reads
+use Rattle.host.proofs.answers.key_of.Reads as key-of-reads
+use Rattle.host.proofs.answers.status_of.Reads as status-of-reads
 use Rattle.ranges.proofs.bytes_range.BytesRange.increment_prefix.Reads as increment-prefix-reads
 
 -- src/lib.rt:367:9

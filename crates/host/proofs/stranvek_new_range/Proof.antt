@@ -5,14 +5,14 @@ use Rattle.bounds.specs.Bounds.{bound}
 use Rattle.bounds.specs.Ranges.{range}
 use Rattle.ranges.specs.Making.{isDone, newOf, status}
 use Rattle.host.specs.Boundary.{kindAt, kindNumber, rangeAt}
-use Rattle.host.proofs.Answers.{bounded, new-done, new-refused}
+use Rattle.host.proofs.AnswerLaws.{bounded, new-done, new-refused}
 use Rattle.host.proofs.stranvek_new_range.Statement.{statement}
 use Rattle.host.proofs.stranvek_new_range.Tie as tie
 use Rattle.host.proofs.stranvek_new_range.Reads as reads
 use Rattle.host.proofs.stranvek_new_range.Lts as lts
-use Rattle.host.proofs.kind_at.Reads as kind-at-reads
-use Rattle.host.proofs.number_of.Reads as number-of-reads
-use Rattle.host.proofs.status_of.Reads as status-of-reads
+use Rattle.host.proofs.answers.kind_at.Reads as kind-at-reads
+use Rattle.host.proofs.answers.number_of.Reads as number-of-reads
+use Rattle.host.proofs.answers.status_of.Reads as status-of-reads
 use Rattle.ranges.proofs.bytes_range.BytesRange.new.Reads as new-reads
 use Rattle.ranges.proofs.bytes_range.Making.is_done.Reads as is-done-reads
 

@@ -8,7 +8,7 @@ use Rattle.host.proofs.stranvek_non_empty.Tie as tie
 use Rattle.host.proofs.stranvek_non_empty.Reads as reads
 use Rattle.host.proofs.stranvek_non_empty.Lts as lts
 use Rattle.bounds.proofs.comparable_range.ComparableRange.non_empty.Reads as non-empty-reads
-use Rattle.host.proofs.range_at.Reads as range-at-reads
+use Rattle.host.proofs.answers.range_at.Reads as range-at-reads
 
 -- src/lib.rt:256:9
 range-at-requires : tie.Need-range-at-requires

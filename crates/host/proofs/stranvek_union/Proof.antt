@@ -8,8 +8,8 @@ use Rattle.host.proofs.stranvek_union.Tie as tie
 use Rattle.host.proofs.stranvek_union.Reads as reads
 use Rattle.host.proofs.stranvek_union.Lts as lts
 use Rattle.bounds.proofs.comparable_range.ComparableRange.union.Reads as union-reads
-use Rattle.host.proofs.pair_of.Reads as pair-of-reads
-use Rattle.host.proofs.range_at.Reads as range-at-reads
+use Rattle.host.proofs.answers.pair_of.Reads as pair-of-reads
+use Rattle.host.proofs.answers.range_at.Reads as range-at-reads
 
 -- src/lib.rt:336:9
 range-at-requires : tie.Need-range-at-requires

@@ -6,7 +6,7 @@ use Rattle.bounds.proofs.comparable_range.max_start.Statement.{statemen
 use Rattle.bounds.proofs.comparable_range.max_start.Tie as tie
 use Rattle.bounds.proofs.comparable_range.max_start.Reads as reads
 use Rattle.bounds.proofs.comparable_range.max_start.Lts as lts
-use Rattle.bounds.proofs.comparable_range.Kind.compare_start.Reads as compare-start-reads
+use Rattle.bounds.proofs.kind.Kind.compare_start.Reads as compare-start-reads
 
 -- src/comparable_range.rt:169:12
 compare-start-requires : tie.Need-compare-start-requires

@@ -6,7 +6,7 @@ use Rattle.bounds.proofs.comparable_range.min_end.Statement.{statement}
 use Rattle.bounds.proofs.comparable_range.min_end.Tie as tie
 use Rattle.bounds.proofs.comparable_range.min_end.Reads as reads
 use Rattle.bounds.proofs.comparable_range.min_end.Lts as lts
-use Rattle.bounds.proofs.comparable_range.Kind.compare_end.Reads as compare-end-reads
+use Rattle.bounds.proofs.kind.Kind.compare_end.Reads as compare-end-reads
 
 -- src/comparable_range.rt:179:12
 compare-end-requires : tie.Need-compare-end-requires

@@ -7,8 +7,8 @@ use Rattle.bounds.proofs.comparable_range.ComparableRange.compare.State
 use Rattle.bounds.proofs.comparable_range.ComparableRange.compare.Tie as tie
 use Rattle.bounds.proofs.comparable_range.ComparableRange.compare.Reads as reads
 use Rattle.bounds.proofs.comparable_range.ComparableRange.compare.Lts as lts
-use Rattle.bounds.proofs.comparable_range.Kind.compare_end.Reads as compare-end-reads
-use Rattle.bounds.proofs.comparable_range.Kind.compare_start.Reads as compare-start-reads
+use Rattle.bounds.proofs.kind.Kind.compare_end.Reads as compare-end-reads
+use Rattle.bounds.proofs.kind.Kind.compare_start.Reads as compare-start-reads
 
 -- src/comparable_range.rt:247:13
 compare-start-requires : tie.Need-compare-start-requires

@@ -1,10 +1,10 @@
 use borrow.Author.Needs.{needs}
-use Rattle.host.proofs.keys_of.Statement.{statement}
-use Rattle.host.proofs.keys_of.Tie as tie
-use Rattle.host.proofs.keys_of.Reads as reads
-use Rattle.host.proofs.keys_of.Lts as lts
-use Rattle.host.proofs.key_of.Reads as key-of-reads
-use Rattle.host.proofs.status_of.Reads as status-of-reads
+use Rattle.host.proofs.answers.keys_of.Statement.{statement}
+use Rattle.host.proofs.answers.keys_of.Tie as tie
+use Rattle.host.proofs.answers.keys_of.Reads as reads
+use Rattle.host.proofs.answers.keys_of.Lts as lts
+use Rattle.host.proofs.answers.key_of.Reads as key-of-reads
+use Rattle.host.proofs.answers.status_of.Reads as status-of-reads
 
 -- src/lib.rt:409:17
 status-of-requires : tie.Need-status-of-requires

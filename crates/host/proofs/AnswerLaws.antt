@@ -8,12 +8,12 @@ use mir.Syntax.{w8}
 use mir.Val.{toZ, ofZ}
 use Rattle.keys.specs.Order.{sign}
 use Rattle.bounds.proofs.Ties.{kept-sign}
-use Rattle.host.specs.declared.Compared.{Compared}
-use Rattle.bounds.specs.declared.comparable_range.Kind.{Kind}
+use Rattle.host.specs.declared.answers.Compared.{Compared}
+use Rattle.bounds.specs.declared.kind.Kind.{Kind}
 use Rattle.ranges.specs.declared.bytes_range.Making.{Making}
 use Rattle.ranges.specs.declared.bytes_range.Making.the-variants.{Done, TooLong, Empty}
 use Rattle.ranges.specs.Making.{isDone, status}
-use Rattle.host.specs.declared.NewRange.{NewRange}
+use Rattle.host.specs.declared.answers.NewRange.{NewRange}
 use Rattle.host.specs.Boundary.{kindNumber, compared, newRange}
 
 abbrev answer : ℤ → Compared

@@ -1,8 +1,8 @@
 use borrow.Author.Tests.{eq-eqb, ne-eqb}
-use Rattle.host.proofs.kind_at.Statement.{statement}
-use Rattle.host.proofs.kind_at.Tie as tie
-use Rattle.host.proofs.kind_at.Reads as reads
-use Rattle.host.proofs.kind_at.Lts as lts
+use Rattle.host.proofs.answers.kind_at.Statement.{statement}
+use Rattle.host.proofs.answers.kind_at.Tie as tie
+use Rattle.host.proofs.answers.kind_at.Reads as reads
+use Rattle.host.proofs.answers.kind_at.Lts as lts
 
 -- src/lib.rt:80:9
 returns : tie.Need-returns

@@ -1,13 +1,13 @@
 use borrow.Author.Needs.{needs}
 use mathlib.Core.Path.{sym, ap, _∙_}
 use Rattle.host.specs.Boundary.{paired}
-use Rattle.host.proofs.pair_of.Statement.{statement}
-use Rattle.host.proofs.pair_of.Tie as tie
-use Rattle.host.proofs.pair_of.Reads as reads
-use Rattle.host.proofs.pair_of.Lts as lts
+use Rattle.host.proofs.answers.pair_of.Statement.{statement}
+use Rattle.host.proofs.answers.pair_of.Tie as tie
+use Rattle.host.proofs.answers.pair_of.Reads as reads
+use Rattle.host.proofs.answers.pair_of.Lts as lts
 use Rattle.bounds.proofs.comparable_range.Side.kind.Reads as kind-reads
-use Rattle.host.proofs.number_of.Reads as number-of-reads
-use Rattle.host.proofs.side_number.Reads as side-number-reads
+use Rattle.host.proofs.answers.number_of.Reads as number-of-reads
+use Rattle.host.proofs.answers.side_number.Reads as side-number-reads
 
 -- src/lib.rt:117:24
 enum-known-combined : tie.Need-enum-known-combined

@@ -1,11 +1,11 @@
 use borrow.Author.Needs.{needs}
 use mathlib.Core.Path.{sym, ap, _∙_}
-use Rattle.host.proofs.range_at.Statement.{statement}
-use Rattle.host.proofs.range_at.Tie as tie
-use Rattle.host.proofs.range_at.Reads as reads
-use Rattle.host.proofs.range_at.Lts as lts
+use Rattle.host.proofs.answers.range_at.Statement.{statement}
+use Rattle.host.proofs.answers.range_at.Tie as tie
+use Rattle.host.proofs.answers.range_at.Reads as reads
+use Rattle.host.proofs.answers.range_at.Lts as lts
 use Rattle.bounds.proofs.comparable_range.ComparableRange.new.Reads as new-reads
-use Rattle.host.proofs.kind_at.Reads as kind-at-reads
+use Rattle.host.proofs.answers.kind_at.Reads as kind-at-reads
 
 -- src/lib.rt:101:26
 kind-at-requires : tie.Need-kind-at-requires
