@@ -14,7 +14,7 @@ pub record Point (r : Range) : Type 0 where
   pub key : List ℕ
   pub is : r ≡ range (included key) (included key)
 
-same-is : (o : Ordering) → isSame o ≡ true → o ≡ eq
+pub same-is : (o : Ordering) → isSame o ≡ true → o ≡ eq
 same-is lt e = cc
 same-is eq e = refl
 same-is gt e = cc

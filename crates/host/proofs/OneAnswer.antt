@@ -1,0 +1,92 @@
+-- "Show that any two results allowed for one call are equal": said of each contract at the boundary, as the checker reads
+-- it.
+use Prim.Native.Nat.{ℕ}
+use mathlib.Core.Path.{_≡_, sym, _∙_}
+use mathlib.Core.List.{List}
+use contract.Lifetimes.{Lfts}
+use denote.Triple.Clauses.{AtExit}
+use borrow.Fn.Kinds.{PK, RK, Dens, Out, resT, endedOf}
+use Rattle.host.proofs.stranvek_compare.Kinds as compare-kinds
+use Rattle.host.proofs.stranvek_compare.Reads as compare
+use Rattle.host.proofs.stranvek_equal.Kinds as equal-kinds
+use Rattle.host.proofs.stranvek_equal.Reads as equal
+use Rattle.host.proofs.stranvek_starts_with.Kinds as starts-with-kinds
+use Rattle.host.proofs.stranvek_starts_with.Reads as starts-with
+use Rattle.host.proofs.stranvek_compare_start.Kinds as compare-start-kinds
+use Rattle.host.proofs.stranvek_compare_start.Reads as compare-start
+use Rattle.host.proofs.stranvek_compare_end.Kinds as compare-end-kinds
+use Rattle.host.proofs.stranvek_compare_end.Reads as compare-end
+use Rattle.host.proofs.stranvek_compare_range.Kinds as compare-range-kinds
+use Rattle.host.proofs.stranvek_compare_range.Reads as compare-range
+use Rattle.host.proofs.stranvek_non_empty.Kinds as non-empty-kinds
+use Rattle.host.proofs.stranvek_non_empty.Reads as non-empty
+use Rattle.host.proofs.stranvek_contains.Kinds as contains-kinds
+use Rattle.host.proofs.stranvek_contains.Reads as contains
+use Rattle.host.proofs.stranvek_are_adjacent.Kinds as are-adjacent-kinds
+use Rattle.host.proofs.stranvek_are_adjacent.Reads as are-adjacent
+use Rattle.host.proofs.stranvek_intersect.Kinds as intersect-kinds
+use Rattle.host.proofs.stranvek_intersect.Reads as intersect
+use Rattle.host.proofs.stranvek_union.Kinds as union-kinds
+use Rattle.host.proofs.stranvek_union.Reads as union
+use Rattle.host.proofs.stranvek_as_point.Kinds as as-point-kinds
+use Rattle.host.proofs.stranvek_as_point.Reads as as-point
+use Rattle.host.proofs.stranvek_increment_prefix.Kinds as increment-prefix-kinds
+use Rattle.host.proofs.stranvek_increment_prefix.Reads as increment-prefix
+use Rattle.host.proofs.stranvek_new_range.Kinds as new-range-kinds
+use Rattle.host.proofs.stranvek_new_range.Reads as new-range
+use Rattle.host.proofs.stranvek_from_prefix.Kinds as from-prefix-kinds
+use Rattle.host.proofs.stranvek_from_prefix.Reads as from-prefix
+use Rattle.host.proofs.stranvek_from_prefix_and_subrange.Kinds as from-prefix-and-subrange-kinds
+use Rattle.host.proofs.stranvek_from_prefix_and_subrange.Reads as from-prefix-and-subrange
+
+-- whatever the arguments, two results that the contract allows are equal
+abbrev pub OneAnswer : (n : ℕ) (ps : List (PK n)) (r : RK n) → Out n ps r → Type 0
+OneAnswer n ps r Post = (κs : Lfts n) (a : Dens κs ps) (x y : resT r κs .Denot) (s t : AtExit (endedOf n ps r) κs) → Post κs a x s → Post κs a y t → x ≡ y
+
+pub one-compare : OneAnswer 2 compare-kinds.ps compare-kinds.r compare.Post
+one-compare κs a x y s t p q = p ∙ sym q
+
+pub one-equal : OneAnswer 2 equal-kinds.ps equal-kinds.r equal.Post
+one-equal κs a x y s t p q = p ∙ sym q
+
+pub one-starts-with : OneAnswer 2 starts-with-kinds.ps starts-with-kinds.r starts-with.Post
+one-starts-with κs a x y s t p q = p ∙ sym q
+
+pub one-compare-start : OneAnswer 2 compare-start-kinds.ps compare-start-kinds.r compare-start.Post
+one-compare-start κs a x y s t p q = p ∙ sym q
+
+pub one-compare-end : OneAnswer 2 compare-end-kinds.ps compare-end-kinds.r compare-end.Post
+one-compare-end κs a x y s t p q = p ∙ sym q
+
+pub one-compare-range : OneAnswer 4 compare-range-kinds.ps compare-range-kinds.r compare-range.Post
+one-compare-range κs a x y s t p q = p ∙ sym q
+
+pub one-non-empty : OneAnswer 2 non-empty-kinds.ps non-empty-kinds.r non-empty.Post
+one-non-empty κs a x y s t p q = p ∙ sym q
+
+pub one-contains : OneAnswer 3 contains-kinds.ps contains-kinds.r contains.Post
+one-contains κs a x y s t p q = p ∙ sym q
+
+pub one-are-adjacent : OneAnswer 4 are-adjacent-kinds.ps are-adjacent-kinds.r are-adjacent.Post
+one-are-adjacent κs a x y s t p q = p ∙ sym q
+
+pub one-intersect : OneAnswer 1 intersect-kinds.ps intersect-kinds.r intersect.Post
+one-intersect κs a x y s t p q = p ∙ sym q
+
+pub one-union : OneAnswer 1 union-kinds.ps union-kinds.r union.Post
+one-union κs a x y s t p q = p ∙ sym q
+
+pub one-as-point : OneAnswer 2 as-point-kinds.ps as-point-kinds.r as-point.Post
+one-as-point κs a x y s t p q = p ∙ sym q
+
+pub one-increment-prefix : OneAnswer 1 increment-prefix-kinds.ps increment-prefix-kinds.r increment-prefix.Post
+one-increment-prefix κs a x y s t p q = p ∙ sym q
+
+pub one-new-range : OneAnswer 2 new-range-kinds.ps new-range-kinds.r new-range.Post
+one-new-range κs a x y s t p q = p ∙ sym q
+
+pub one-from-prefix : OneAnswer 1 from-prefix-kinds.ps from-prefix-kinds.r from-prefix.Post
+one-from-prefix κs a x y s t p q = p ∙ sym q
+
+pub one-from-prefix-and-subrange : OneAnswer 3 from-prefix-and-subrange-kinds.ps from-prefix-and-subrange-kinds.r from-prefix-and-subrange.Post
+one-from-prefix-and-subrange κs a x y s t p q = p ∙ sym q
