@@ -1,0 +1,1 @@
+include!("slatedb/oracle.rs");

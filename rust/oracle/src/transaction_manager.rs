@@ -1,0 +1,1 @@
+include!("slatedb/transaction_manager.rs");
