@@ -8,8 +8,8 @@ use native.Mathlib.Omega.{arith}
 use borrow.Author.Tests.{ne-eqb, eqb-true, eqb-false}
 use lib.Dec.{eqb}
 use lib.ListN.{length, getD, take, set}
-use lib.Seq.{set-split, set-getD, drop-length}
-use Rattle.ranges.specs.Prefixes.{increment, raised}
+use lib.Seq.{set-split, set-getD, drop-length, take-length, take-take, getD-take, length-take-le}
+use Rattle.ranges.specs.Prefixes.{increment, raised, Raises}
 
 pub increment-empty : (p : List ℕ) → length p ≡ 0 → increment p ≡ none
 unfolding increment
@@ -45,6 +45,30 @@ module _ (p : List ℕ) (h : 0 < length p) where
   increment-here n =
       let b = getD p (length p - 1) 0 in
       ap increment last-apart ∙ increment-last (take (length p - 1) p) b n ∙ ap {B = Option (List ℕ)} some (sym (last-set (b + 1)))
+
+-- the length of an increment, as code finds it from the last byte on
+pub raises-none : (p : List ℕ) → length p ≡ 0 → Raises p 0
+raises-none p h = record { within = omega arith; same = increment-empty [] refl ∙ sym (increment-empty p h); raisable = λ z. absurd (omega arith) }
+
+pub raises-last : (p : List ℕ) → getD p (length p - 1) 0 < 255 → Raises p (length p)
+raises-last p h = record { within = omega arith; same = ap increment (take-length p); raisable = λ z. h }
+
+pub raises-shorter : (p : List ℕ) {n : ℕ} → 0 < length p → getD p (length p - 1) 0 ≡ 255 → Raises (take (length p - 1) p) n → Raises p n
+raises-shorter p {n} h e r =
+    let l = length-take-le (length p - 1) p (omega arith) in
+    let w = r .within in
+    let m : n ≤ length p - 1 = omega arith in
+    record {
+      within = omega arith;
+      same = ap increment (sym (take-take n (length p - 1) p m)) ∙ r .same ∙ sym (increment-shorter p h e);
+      raisable = λ z. rw (getD-take (length p - 1) p (n - 1) 0 (omega arith)) at (r .raisable z);
+    }
+
+pub raised-none : {p : List ℕ} {n : ℕ} → Raises p n → n ≡ 0 → increment p ≡ none
+raised-none {p} r e = sym (r .same) ∙ increment-empty _ (ap (λ m. length (take m p)) e)
+
+pub raised-part : {p : List ℕ} {n : ℕ} → Raises p n → 0 < n → getD (take n p) (length (take n p) - 1) 0 < 255
+raised-part {p} {n} r h = rw (length-take-le n p (r .within), getD-take n p (n - 1) 0 (omega arith)) (r .raisable h)
 
 -- the three ways of an increment by the first byte: a later byte is raised; this one is; there is none
 pub data Way (x : ℕ) (p : List ℕ) : Type 0 where

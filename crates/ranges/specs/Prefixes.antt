@@ -1,9 +1,11 @@
 -- Increments, prefix ranges and prefixes with a subrange, in document 01's words.
-use Prim.Native.Nat.{ℕ, _+_}
+use Prim.Native.Nat.{ℕ, _+_, _-_, _≤_, _<_}
+use mathlib.Core.Path.{_≡_}
 use mathlib.Core.Bool.{Bool, cond}
 use mathlib.Core.List.{List, [], _∷_, _++_}
 use mathlib.Core.Option.{Option, none, some}
 use lib.Dec.{eqb}
+use lib.ListN.{length, take, getD}
 use Rattle.bounds.specs.Bounds.{Bound, unbounded, included, excluded}
 use Rattle.bounds.specs.Ranges.{Range, range, everything}
 
@@ -15,6 +17,12 @@ raised x none = cond (eqb x 255) none (some ((x + 1) ∷ []))
 unfoldable pub increment : List ℕ → Option (List ℕ)
 increment [] = none
 increment (x ∷ xs) = raised x (increment xs)
+
+-- the first n bytes have the same increment, by raising the last of them; none where n is 0
+pub record Raises (p : List ℕ) (n : ℕ) : Type 0 where
+  pub within : n ≤ length p
+  pub same : increment (take n p) ≡ increment p
+  pub raisable : 0 < n → getD p (n - 1) 0 < 255
 
 -- the end that stands above all with a prefix: excluded at its increment, unbounded if there is none
 abbrev pub endAt : Option (List ℕ) → Bound

@@ -6,7 +6,7 @@ ghost use lib.Seq.{paste};
 ghost use Rattle.keys.specs.Limit.{keyLimit};
 ghost use Rattle.bounds.specs.Bounds.{Bound, bound, unbounded};
 ghost use Rattle.bounds.specs.Ranges.{range, rangeOf, everything, holds, isPoint};
-ghost use Rattle.ranges.specs.Prefixes.{increment, endAt, prefixRange, subrangeOf, subStart, subEnd};
+ghost use Rattle.ranges.specs.Prefixes.{increment, Raises, endAt, prefixRange, subrangeOf, subStart, subEnd};
 ghost use Rattle.ranges.specs.Making.{Sized, isDone, tooLong, newOf, padded, made, madeBound, madeIncrement, madeRange, madeAs};
 use bounds::comparable_range::ComparableRange;
 use bounds::kind::Kind;
@@ -173,19 +173,30 @@ fn raised(prefix: &[u8]) -> Made
     }
 }
 
-// The increment of a prefix whose last byte is ff is the increment of what stands before it; none at length zero.
+// How long the increment of a prefix is: that of a prefix whose last byte is ff is the increment of what stands before
+// it; none at length zero. It answers a number, since a made key in each frame of the recursion would take much stack.
+fn increment_len(prefix: &[u8]) -> usize
+    ensures { λ r. ⌜ Raises (now (prefix .entry)) r ⌝ }
+{
+    if prefix.len() == 0 {
+        return 0;
+    }
+    let last = prefix.len() - 1;
+    if prefix[last] == 255 {
+        return increment_len(&prefix[..last]);
+    }
+    prefix.len()
+}
+
 fn increment(prefix: &[u8]) -> Made
     requires { ⌜ length (now prefix) ≤ keyLimit ⌝ }
     ensures { λ r. ⌜ r ≡ made Making.Done (endAt (increment (now (prefix .entry)))) ⌝ }
 {
-    if prefix.len() == 0 {
+    let n = increment_len(prefix);
+    if n == 0 {
         return Made::nothing(Making::Done);
     }
-    let last = prefix.len() - 1;
-    if prefix[last] == 255 {
-        return increment(&prefix[..last]);
-    }
-    raised(prefix)
+    raised(&prefix[..n])
 }
 
 // The start of a prefix's subrange: unbounded is from the bare prefix on, which everything has if it is empty.

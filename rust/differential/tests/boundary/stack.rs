@@ -6,8 +6,8 @@ use std::thread;
 use stranvek_sys::answers::{MadeKey, MadeKeys, RawBound, RawRange, KEY_LIMIT, UNBOUNDED};
 use stranvek_sys::boundary;
 
-/// A thread's whole stack: 512 bytes of ff take 573 KiB of it, in frames of 1,120 bytes.
-const STACK: usize = 640 * 1024;
+/// A thread's whole stack.
+const STACK: usize = 64 * 1024;
 
 const EVERYTHING: RawRange = {
     let unbounded = RawBound { kind: UNBOUNDED, key: &[] };
