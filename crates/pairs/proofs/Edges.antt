@@ -14,6 +14,10 @@ use Rattle.bounds.specs.Ranges.{range, holds, notEmpty, intersectOf, joinOf, un
 use Rattle.bounds.proofs.Points.{point-holds, same-is}
 use Rattle.ranges.specs.Making.{newOf}
 use Rattle.ranges.specs.Prefixes.{increment, raised}
+use lib.ListN.{drop}
+use Rattle.machine.specs.Lists.{any, keep, sum}
+use Rattle.machine.specs.Serve.{answer, serve}
+use Rattle.machine.specs.Sets.{insert, insertAll, put, find, without, leastOf, prune, append, tracks, conflict}
 use Rattle.pairs.specs.Pairs.{cases, Every}
 
 only-itself : (k l : List ℕ) → (holds (range (included k) (included k)) l ≡ true) ↔ (l ≡ k)
@@ -47,6 +51,11 @@ none-between (x ∷ k) = go (three 97 x)
     go (equal e) = ap (λ y. isLess (order (97 ∷ []) (y ∷ k)) && isLess (order (y ∷ k) (97 ∷ 0 ∷ []))) (sym e) ∙ (λ i. isLess (head-same 97 [] k i) && isLess (head-same 97 k (0 ∷ []) i)) ∙ none-below-zero k
     go (above h) = ap (λ o. isLess o && isLess (order (x ∷ k) (97 ∷ 0 ∷ []))) (head-more 97 x [] k h)
 
+-- the cases of the machine, by computing what is served
+served : Every (drop 9 cases)
+unfolding order serve answer any keep sum find put without leastOf prune append tracks conflict insert insertAll
+served = ((refl, refl, refl), (refl, (refl, tt)))
+
 pub edges : Every cases
 unfolding order increment raised intersectOf joinOf unionOf newOf then
 edges = (
@@ -67,7 +76,7 @@ edges = (
                 refl,
                 (
                   refl,
-                  tt,
+                  served,
                 ),
               ),
             ),

@@ -13,6 +13,10 @@ use Rattle.bounds.specs.Bounds.{unbounded, included, excluded}
 use Rattle.bounds.specs.Ranges.{Range, range, holds, notEmpty, touches, unionOf}
 use Rattle.ranges.specs.Making.{newOf, status}
 use Rattle.ranges.specs.Prefixes.{increment, subrangeOf}
+use Rattle.machine.specs.State.{Bytes, State, base}
+use Rattle.machine.specs.Calls.{Room, holding, on, check, commit, dropTxn, minimum, replied}
+use Rattle.machine.specs.Serve.{state, entry, newTxn, addWrites, serve}
+use lib.ListN.{replicate}
 
 abbrev Key : Type 0
 Key = List ℕ
@@ -41,6 +45,22 @@ Hollow r = (notEmpty r ≡ true) × ((k : Key) → holds r k ≡ false)
 abbrev belowEmpty : Range
 belowEmpty = range unbounded (excluded [])
 
+-- ids A and B; A has started at 7 and writes [6b], B has started at 8, and an entry wrote [6b]
+abbrev A : Bytes
+A = replicate 16 10
+
+abbrev B : Bytes
+B = replicate 16 11
+
+abbrev k6b : Key
+k6b = 107 ∷ []
+
+abbrev alone : ℕ → State
+alone n = state 8 (addWrites (k6b ∷ []) (newTxn A 7) ∷ []) (entry n (k6b ∷ []) ∷ [])
+
+abbrev room : ℕ → Room
+room n = holding (state 8 (addWrites (k6b ∷ []) (newTxn A 7) ∷ newTxn B 8 ∷ []) (entry n (k6b ∷ []) ∷ []))
+
 abbrev pub cases : List (Type 0)
 cases =
     -- "[61] < [61 00] < [62]."
@@ -62,6 +82,14 @@ cases =
     (status (newOf (subrangeOf k61 belowEmpty)) ≡ 5)
     ∷  -- "empty prefix, same subrange: accepted."
     (status (newOf (subrangeOf [] belowEmpty)) ≡ 0)
+    ∷  -- "entry 7, start 7: no conflict, yet kept when the minimum is 7."
+    ((serve base (room 7) (on (check A)) ≡ replied 0 0 (room 7))
+    × (serve base (room 7) (on (dropTxn B)) ≡ replied 0 1 (holding (alone 7)))
+    × (serve base (holding (alone 7)) (on minimum) .value ≡ 7))
+    ∷  -- "entry 8, start 7, shared key: conflict."
+    (serve base (room 8) (on (check A)) ≡ replied 0 1 (room 8))
+    ∷  -- "commit of an unknown id at 9 when last is 7: status 1, value 9."
+    (serve base (holding (state 7 [] [])) (on (commit A 9)) ≡ replied 1 9 (holding (state 9 [] [])))
     ∷ []
 
 -- all statements of a list

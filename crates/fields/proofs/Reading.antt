@@ -1,0 +1,65 @@
+-- The field at a place, by the bytes that stand there.
+use Prim.Native.Nat.{ℕ, suc, _+_, _-_, _*_, _≤_, _<_}
+use mathlib.Core.Path.{_≡_, refl, sym, ap, _∙_}
+use mathlib.Core.Bool.{cond}
+use mathlib.Core.List.{List, _∷_}
+use mathlib.Core.Option.{none}
+use native.Mathlib.Omega.{arith}
+use borrow.Author.Tests.{le-leb, lt-leb}
+use lib.Dec.{leb}
+use lib.ListN.{length, take, drop, getD, length-drop, drop-of-length-le}
+use lib.Seq.{slice, drop-cons, drop-drop, drop-at, take-add, length-take-le}
+use Rattle.fields.specs.Fields.{field, before, fields}
+use Rattle.fields.specs.Forms.{ItemAt, EndAt, BrokenAt}
+use Rattle.fields.proofs.Steps.{fields-short, fields-step}
+
+byte : (bs : List ℕ) (i j : ℕ) → j ≡ suc i → i < length bs → drop i bs ≡ getD bs i 0 ∷ drop j bs
+byte bs i j e h = rw e (drop-cons bs i 0 h)
+
+take-of-drop : (f n : ℕ) (bs : List ℕ) → f ≤ length bs → take n (drop f bs) ≡ slice f (f + n) bs
+take-of-drop f n bs h =
+    sym (ap (drop f) (take-add f n bs) ∙ drop-at (take f bs) (take n (drop f bs)) f (length-take-le f bs h))
+
+module _ (bs : List ℕ) (at : ℕ) where
+  pub ends-at : length bs ≤ at → EndAt bs at
+  ends-at h = record { ends = drop-of-length-le bs h }
+
+  pub head-cut : at < length bs → length bs - at < 3 → BrokenAt fields bs at
+  head-cut h k = record { breaks = fields-short (drop at bs) (rw length-drop (omega arith)) (rw length-drop (omega arith)) }
+
+  module _ (h l : ℕ) (room : at + 3 ≤ length bs) (high : h ≡ getD bs (at + 1) 0) (low : l ≡ getD bs (at + 2) 0) where
+    head-bytes : drop at bs ≡ getD bs at 0 ∷ h ∷ l ∷ drop (at + 3) bs
+    head-bytes =
+        rw (
+          byte bs at (at + 1) (omega arith) (omega arith),
+          byte bs (at + 1) (at + 2) (omega arith) (omega arith),
+          byte bs (at + 2) (at + 3) (omega arith) (omega arith),
+          high,
+          low,
+        )
+
+    step-at : fields (drop at bs)
+        ≡ cond
+        (leb (h * 256 + l) (length (drop (at + 3) bs)))
+        (before (field (getD bs at 0) (take (h * 256 + l) (drop (at + 3) bs))) (fields (drop (h * 256 + l) (drop (at + 3) bs))))
+        none
+    step-at = ap fields head-bytes ∙ fields-step (getD bs at 0) h l (drop (at + 3) bs)
+
+    pub payload-cut : length bs - (at + 3) < h * 256 + l → BrokenAt fields bs at
+    payload-cut k = record { breaks = step-at ∙ rw (lt-leb (h * 256 + l) (length (drop (at + 3) bs)) (rw length-drop k)) }
+
+    pub field-here : h * 256 + l ≤ length bs - (at + 3)
+        → ItemAt fields bs at (at + 3) (at + 3 + (h * 256 + l)) (field (getD bs at 0) (slice (at + 3) (at + 3 + (h * 256 + l)) bs))
+    field-here k =
+        record {
+          begins = refl;
+          ordered = omega arith;
+          within = omega arith;
+          reads =
+              step-at
+              ∙ rw (
+                le-leb (h * 256 + l) (length (drop (at + 3) bs)) (rw length-drop k),
+                take-of-drop (at + 3) (h * 256 + l) bs room,
+                drop-drop (h * 256 + l) (at + 3) bs,
+              );
+        }

@@ -1,0 +1,86 @@
+-- What the readers of fields, key lists and bounds answer, case by case.
+use Prim.Native.Nat.{ℕ, _+_, _≤_}
+use mathlib.Core.Path.{_≡_}
+use mathlib.Core.Bool.{Bool, true, cond, _&&_}
+use mathlib.Core.List.{List, [], _∷_}
+use mathlib.Core.Option.{Option, none, some}
+use lib.Dec.{leb}
+use lib.ListN.{length, drop}
+use lib.Seq.{slice}
+use Rattle.keys.specs.Limit.{keyLimit}
+use Rattle.bounds.specs.Bounds.{bound}
+use Rattle.bounds.specs.Ranges.{range}
+use Rattle.fields.specs.declared.FieldAt.{FieldAt}
+use Rattle.fields.specs.declared.NextKey.{NextKey}
+use Rattle.fields.specs.declared.Form.{Form}
+use Rattle.fields.specs.declared.BoundAt.{BoundAt}
+use Rattle.fields.specs.declared.Places.{Places}
+use Rattle.fields.specs.declared.ReadBounds.{ReadBounds}
+use Rattle.fields.specs.Fields.{field, fields, before, keyList, boundList, boundsOf}
+
+-- what a reader of lists finds at a place: its first item, whose payload ends where the list goes on
+pub record ItemAt {A : Type 0} (list : List ℕ → Option (List A)) (bs : List ℕ) (at from to : ℕ) (a : A) : Type 0 where
+  pub begins : from ≡ at + 3
+  pub ordered : from ≤ to
+  pub within : to ≤ length bs
+  pub reads : list (drop at bs) ≡ before a (list (drop to bs))
+
+pub record EndAt (bs : List ℕ) (at : ℕ) : Type 0 where
+  pub ends : drop at bs ≡ []
+
+pub record BrokenAt {A : Type 0} (list : List ℕ → Option (List A)) (bs : List ℕ) (at : ℕ) : Type 0 where
+  pub breaks : list (drop at bs) ≡ none
+
+abbrev pub FieldIs : List ℕ → ℕ → FieldAt → Type 0
+FieldIs bs at (FieldAt.At tag from to) = ItemAt fields bs at from to (field tag (slice from to bs))
+FieldIs bs at FieldAt.End = EndAt bs at
+FieldIs bs at FieldAt.Cut = BrokenAt fields bs at
+
+abbrev pub NextIs : List ℕ → ℕ → NextKey → Type 0
+NextIs bs at (NextKey.Key from to) = ItemAt keyList bs at from to (slice from to bs)
+NextIs bs at NextKey.End = EndAt bs at
+NextIs bs at NextKey.Bad = BrokenAt keyList bs at
+
+-- every key is within the limit
+unfoldable pub shortKeys : ℕ → List (List ℕ) → Bool
+shortKeys n [] = true
+shortKeys n (k ∷ ks) = leb (length k) n && shortKeys n ks
+
+-- the whole form first, then over-long keys
+abbrev pub formOf : Option (List (List ℕ)) → Form
+formOf none = Form.Malformed
+formOf (some ks) = cond (shortKeys keyLimit ks) Form.Good Form.Long
+
+-- document 01's number of each verdict
+abbrev pub formStatus : Form → ℕ
+formStatus Form.Good = 0
+formStatus Form.Long = 4
+formStatus Form.Malformed = 2
+
+-- the first item of a list that can be read and has one
+abbrev pub firstOf : {A : Type 0} → Option (List A) → Option A
+firstOf none = none
+firstOf (some []) = none
+firstOf (some (a ∷ as′)) = some a
+
+pub record NoBoundAt (bs : List ℕ) (at : ℕ) : Type 0 where
+  pub lacks : firstOf (boundList (drop at bs)) ≡ none
+
+abbrev pub BoundIs : List ℕ → ℕ → BoundAt → Type 0
+BoundIs bs at (BoundAt.Found kind from to) = ItemAt boundList bs at from to (bound kind (slice from to bs))
+BoundIs bs at BoundAt.NoBound = NoBoundAt bs at
+
+-- the two bounds by the places of their keys
+pub record BoundsAt (bs : List ℕ) (p : Places) : Type 0 where
+  pub start-ordered : p .«start_from» ≤ p .«start_to»
+  pub start-within : p .«start_to» ≤ length bs
+  pub end-ordered : p .«end_from» ≤ p .«end_to»
+  pub end-within : p .«end_to» ≤ length bs
+  pub reads : boundsOf bs ≡ some (range (bound (p .start) (slice (p .«start_from») (p .«start_to») bs)) (bound (p .end) (slice (p .«end_from») (p .«end_to») bs)))
+
+pub record NoBoundsIn (bs : List ℕ) : Type 0 where
+  pub breaks : boundsOf bs ≡ none
+
+abbrev pub BoundsAre : List ℕ → ReadBounds → Type 0
+BoundsAre bs (ReadBounds.Bounds p) = BoundsAt bs p
+BoundsAre bs ReadBounds.NoBounds = NoBoundsIn bs

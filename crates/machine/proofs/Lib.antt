@@ -1,0 +1,17 @@
+pub mod ListLaws
+pub mod SetLaws
+pub mod ActiveLaws
+pub mod Effects
+pub mod EntryLaws
+pub mod Kept
+pub mod Meaning
+pub mod Pruning
+pub mod Record
+pub mod Stays
+pub mod Answers
+pub mod Minimum
+pub mod RustVerdict
+pub mod RustAgrees
+pub mod Rows
+pub mod RowSix
+pub mod Known

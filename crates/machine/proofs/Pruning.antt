@@ -1,0 +1,100 @@
+-- Pruning never changes a verdict of anyone active or of anyone who begins later.
+use Prim.Native.Nat.{ℕ, _≤_, max}
+use mathlib.Core.Path.{_≡_, refl, sym, ap, _∙_}
+use mathlib.Core.Bool.{Bool, true, _||_, or-assoc}
+use mathlib.Core.List.{List, [], _∷_, _++_, List·Memᴰ, List·Memᴰ·cases-cons, List·Memᴰ·not-nil}
+use mathlib.Core.Logic.{_⊎_, inl, inr}
+use native.Mathlib.Omega.{arith}
+use lib.Dec.{leb, ltb}
+use borrow.Author.Tests.{ltb-true, le-ltb, le-leb}
+use Rattle.machine.specs.Lists.{any, keep, All}
+use Rattle.machine.specs.State.{Bytes, Txn, Entry, State, Ceilings, EntryOk, MachineState}
+use Rattle.machine.specs.Sets.{leastOf, prune, append, tracks, conflict}
+use Rattle.machine.specs.Serve.{entry}
+use Rattle.machine.proofs.Minimum.{least-is}
+use Rattle.machine.proofs.ListLaws.{any-keep, all-map, all-append, keep-append, keep-keep, keep-none}
+use Rattle.machine.proofs.EntryLaws.{prune-all, append-all}
+
+-- ---------------------------------------------------------------- the entries that a start sees
+
+abbrev isAbove : ℕ → Entry → Bool
+isAbove n e = ltb n (e .seq)
+
+abbrev pub above : ℕ → List Entry → List Entry
+above n es = keep (isAbove n) es
+
+-- a verdict looks at nothing else
+pub same-verdict : (t : Txn) (es fs : List Entry) → above (t .start) es ≡ above (t .start) fs → conflict t es ≡ conflict t fs
+unfolding conflict
+same-verdict t es fs q = seen es ∙ ap (any wrote) q ∙ sym (seen fs)
+  where
+    wrote : Entry → Bool
+    wrote e = any (tracks t) (e .keys)
+
+    seen : (ds : List Entry) → conflict t ds ≡ any wrote (above (t .start) ds)
+    seen ds = any-keep (isAbove (t .start)) wrote ds
+
+pub above-more : (n : ℕ) (es fs more : List Entry) → above n es ≡ above n fs → above n (es ++ more) ≡ above n (fs ++ more)
+above-more n es fs more q =
+    keep-append (isAbove n) es more ∙ ap (λ z. z ++ above n more) q ∙ sym (keep-append (isAbove n) fs more)
+
+-- every sequence is at most n
+abbrev pub UpTo : ℕ → List Entry → Type 0
+UpTo n es = All (λ e. e .seq ≤ n) es
+
+pub up-to-none : (n : ℕ) (es : List Entry) → UpTo n es → above n es ≡ []
+up-to-none n es a = keep-none (isAbove n) es (all-map _ _ (λ e. le-ltb n (e .seq)) es a)
+
+pub up-to-larger : (m n : ℕ) (es : List Entry) → m ≤ n → UpTo m es → UpTo n es
+up-to-larger m n es h a = all-map (λ e. e .seq ≤ m) (λ e. e .seq ≤ n) (λ e q. omega arith) es a
+
+pub up-to-last : (L : Ceilings) (s : State) → MachineState L s → UpTo (s .last) (s .entries)
+up-to-last L s ok = all-map (EntryOk L (s .last)) _ (λ e q. q .committed) (s .entries) (ok .entries)
+
+-- ---------------------------------------------------------------- who is active
+
+pub prune-above : (ts : List Txn) (es : List Entry) (t : Txn) → List·Memᴰ t ts → above (t .start) (prune ts es) ≡ above (t .start) es
+unfolding prune
+prune-above [] es t m = absurd (List·Memᴰ·not-nil m)
+prune-above (u ∷ us) es t m = keep-keep (isAbove (t .start)) (λ e. leb (leastOf u us) (e .seq)) kept es
+  where
+    kept : (e : Entry) → isAbove (t .start) e ≡ true → leb (leastOf u us) (e .seq) ≡ true
+    kept e h = le-leb (leastOf u us) (e .seq) (omega (arith, ltb-true (t .start) (e .seq) h, least-is u us .below t m))
+
+-- the active ones that a drop leaves, or any others
+pub prune-active : (ts : List Txn) (es : List Entry) (t : Txn) → List·Memᴰ t ts → conflict t (prune ts es) ≡ conflict t es
+prune-active ts es t m = same-verdict t (prune ts es) es (prune-above ts es t m)
+
+-- ---------------------------------------------------------------- who begins later
+
+old-verdict : (t : Txn) (es fs : List Entry) → UpTo (t .start) es → UpTo (t .start) fs → conflict t es ≡ conflict t fs
+old-verdict t es fs a b = same-verdict t es fs (up-to-none _ es a ∙ sym (up-to-none _ fs b))
+
+module _ (L : Ceilings) (s : State) (ok : MachineState L s) (ts : List Txn) (t : Txn) where
+  -- who begins later starts at the last number or above
+  pub prune-later : s .last ≤ t .start → conflict t (prune ts (s .entries)) ≡ conflict t (s .entries)
+  prune-later h =
+      let a = up-to-larger _ (t .start) (s .entries) h (up-to-last L s ok) in
+      old-verdict t _ _ (prune-all _ ts (s .entries) a) a
+
+  -- the list is emptied by a commit or a batch too, where nobody is left active
+  pub empty-later :
+      (n : ℕ) (ks : List Bytes)
+      → max (s .last) n ≤ t .start
+      → conflict t (append ts (s .entries) (entry n ks)) ≡ conflict t (s .entries ++ (entry n ks ∷ []))
+  empty-later n ks h =
+      let a = up-to-larger _ (t .start) (s .entries) (omega arith) (up-to-last L s ok) in
+      let b : n ≤ t .start = omega arith in
+      old-verdict t _ _ (append-all _ ts (s .entries) (entry n ks) a b) (all-append _ (s .entries) (entry n ks ∷ []) a (b, tt))
+
+-- ---------------------------------------------------------------- and afterwards
+
+any-append : {A : Type 0} (p : A → Bool) (xs ys : List A) → any p (xs ++ ys) ≡ any p xs || any p ys
+unfolding any
+any-append p [] ys = refl
+any-append p (x ∷ xs) ys = ap (λ z. p x || z) (any-append p xs ys) ∙ sym (or-assoc (p x) (any p xs) (any p ys))
+
+-- equal verdicts stay equal, whatever is entered after the pruning
+pub same-after : (t : Txn) (es fs more : List Entry) → conflict t es ≡ conflict t fs → conflict t (es ++ more) ≡ conflict t (fs ++ more)
+unfolding conflict
+same-after t es fs more q = any-append _ es more ∙ ap (λ z. z || conflict t more) q ∙ sym (any-append _ fs more)
