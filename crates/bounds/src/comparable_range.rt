@@ -178,6 +178,36 @@ impl ComparableRange {
         )
     }
 
+    // The greater start's key, handed back as a part of whichever slice it came in.
+    pub fn intersect_start<'a>(
+        self,
+        start_key: &'a [u8],
+        other: ComparableRange,
+        other_start_key: &'a [u8],
+    ) -> &'a [u8]
+        ensures { λ r. ⌜ now r ≡ sided (maxStart (bound (self .start) (now («start_key» .entry))) (bound (other .start) (now («other_start_key» .entry)))) (now («start_key» .entry)) (now («other_start_key» .entry)) ⌝ }
+    {
+        let a = self.start;
+        let b = other.start;
+        let side = max_start(a, start_key, b, other_start_key);
+        side.key(start_key, other_start_key)
+    }
+
+    // The lesser end's key, handed back as a part of whichever slice it came in.
+    pub fn intersect_end<'a>(
+        self,
+        end_key: &'a [u8],
+        other: ComparableRange,
+        other_end_key: &'a [u8],
+    ) -> &'a [u8]
+        ensures { λ r. ⌜ now r ≡ sided (minEnd (bound (self .end) (now («end_key» .entry))) (bound (other .end) (now («other_end_key» .entry)))) (now («end_key» .entry)) (now («other_end_key» .entry)) ⌝ }
+    {
+        let a = self.end;
+        let b = other.end;
+        let side = min_end(a, end_key, b, other_end_key);
+        side.key(end_key, other_end_key)
+    }
+
     pub fn union<'a>(
         self,
         start_key: &'a [u8],

@@ -28,7 +28,7 @@ use Rattle.host.specs.declared.answers.Key.{Key}
 use Rattle.host.specs.declared.answers.MadeKey.{MadeKey}
 use Rattle.host.specs.declared.answers.MadeKeys.{MadeKeys}
 
--- "tag 10 unbounded, 11 included, 12 excluded"; a number that names no kind is the widest one
+-- "tag 10 unbounded (length 0), 11 included, 12 excluded"; a number that names no kind is the widest one
 abbrev pub kindAt : ℕ → Kind
 kindAt n = cond (eqb n 17) Included (cond (eqb n 18) Excluded Unbounded)
 

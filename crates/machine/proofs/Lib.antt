@@ -15,3 +15,4 @@ pub mod RustAgrees
 pub mod Rows
 pub mod RowSix
 pub mod Known
+pub mod Looks

@@ -69,6 +69,7 @@ enter L s left n ks =
     settle L (max (s .last) n) (state (max (s .last) n) left (append left (s .entries) (entry n ks)))
 
 unfoldable pub answer : Ceilings → State → Op → Answer
+-- "3: begin of an active id"
 answer L s (begin i) = do
   need (isId i) malformed
   need (isNew (find i (s .active))) again
@@ -89,24 +90,30 @@ answer L s (trackRange i bs) = do
   need (shortRange (L .key) r) long
   need (notEmpty r) empty
   track L s i (addRange r)
+-- "check: 1 conflict, 0 none"
 answer L s (check i) = do
   need (isId i) malformed
   t ← given (find i (s .active)) (absent 0 s)
   done (verdict (conflict t (s .entries))) s
+-- "the transaction leaves; its write set becomes the last entry ..; the number advances. For an id not active only the
+-- number advances."
 answer L s (commit i n) = do
   need (isId i) malformed
   t ← given (find i (s .active)) (absent (max (s .last) n) (state (max (s .last) n) (s .active) (s .entries)))
   enter L s (without i (s .active)) n (t .writes)
+-- "Write batch: the same with its own keys, an empty list included, and no id."
 answer L s (batch n bs) = do
   ks ← given (keyList bs) (refused malformed)
   need (shortKeys (L .key) ks) long
   enter L s (s .active) n (insertAll ks [])
+-- "Drop: remove the id if active, then prune, even for an unknown id."
 answer L s (dropTxn i) = do
   need (isId i) malformed
   let left = without i (s .active)
   let es = prune left (s .entries)
   t ← given (find i (s .active)) (absent (length es) (state (s .last) left es))
   done (length es) (state (s .last) left es)
+-- "Minimum: smallest active start."; "1: .. minimum with nobody active"
 answer L s minimum = do
   m ← given (least (s .active)) (absent 0 s)
   done m s

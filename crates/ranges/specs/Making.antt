@@ -47,8 +47,8 @@ keyOf unbounded = []
 keyOf (included k) = k
 keyOf (excluded k) = k
 
--- "A key that must be made comes back by value with its length, zeros after it; length 0 and unbounded when refused or
--- none."
+-- "A key that must be made (increment, joined) comes back by value with its length, zeros after it; length 0 and
+-- unbounded when refused or none."
 unfoldable pub padded : List ℕ → List ℕ
 padded k = k ++ replicate (keyLimit - length k) 0
 
@@ -66,7 +66,7 @@ made m b = record { making = m; bound = madeOf b }
 abbrev pub madeBound : Bound → Made
 madeBound b = cond (tooLong b) (made TooLong unbounded) (made Done b)
 
--- "an over-long prefix is status 4"
+-- "In making a range or increment, an over-long key, prefix or joined key is status 4"
 abbrev pub madeIncrement : List ℕ → Made
 madeIncrement p = cond (ltb keyLimit (length p)) (made TooLong unbounded) (made Done (endAt (increment p)))
 

@@ -1,5 +1,7 @@
 //! The unchanged Rust where it makes ranges and keys, under the limit that document 01 adds and the Rust does not have: a key,
 //! prefix or joined key over 512 bytes is status 4. That comes before status 5, which is given exactly where the Rust panics.
+// An older clippy says this of the thread-local cell below.
+#![allow(clippy::declare_interior_mutable_const)]
 
 use bytes::Bytes;
 use slatedb_oracle::bytes_range::{self, BytesProbe};

@@ -73,7 +73,7 @@ pub fn union<'a>(a: KeyRange<'a>, b: KeyRange<'a>) -> Option<KeyRange<'a>> {
 }
 
 /// The key that a range from it to itself, both included, holds alone.
-pub fn as_point<'a>(range: KeyRange<'a>) -> Option<&'a [u8]> {
+pub fn as_point(range: KeyRange<'_>) -> Option<&[u8]> {
     match range.0 {
         Bound::Included(key) if boundary::as_point(raw(range)).holds => Some(key),
         _ => None,
@@ -103,7 +103,7 @@ pub fn from_prefix_and_subrange(prefix: &[u8], subrange: KeyRange) -> Result<(Ke
     accepted(made.status).map(|()| (made.start, made.end))
 }
 
-fn raw<'a>(range: KeyRange<'a>) -> RawRange<'a> {
+fn raw(range: KeyRange<'_>) -> RawRange<'_> {
     RawRange { start: RawBound::from(range.0), end: RawBound::from(range.1) }
 }
 

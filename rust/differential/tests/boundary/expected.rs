@@ -20,7 +20,7 @@ pub fn test(holds: bool) -> Told {
 }
 
 /// The range over the very slices that are passed, so that a key is told by its address.
-pub fn probe<'a>(range: RawRange<'a>) -> ComparableProbe<&'a [u8]> {
+pub fn probe(range: RawRange<'_>) -> ComparableProbe<&[u8]> {
     ComparableProbe::new(range.start.into(), range.end.into())
 }
 

@@ -23,7 +23,7 @@ const ALPHABET: [u8; 5] = [0x00, 0x01, 0x61, 0xfe, 0xff];
 /// Beside an unbounded bound stands a key that must be ignored.
 const IGNORED: &[u8] = &[0x61];
 
-fn passed<'a>(bound: Bound<&'a [u8]>) -> RawBound<'a> {
+fn passed(bound: Bound<&[u8]>) -> RawBound<'_> {
     let raw = RawBound::from(bound);
     match bound {
         Bound::Unbounded => RawBound { key: IGNORED, ..raw },
@@ -31,6 +31,6 @@ fn passed<'a>(bound: Bound<&'a [u8]>) -> RawBound<'a> {
     }
 }
 
-fn passed_range<'a>(range: KeyRange<'a>) -> RawRange<'a> {
+fn passed_range(range: KeyRange<'_>) -> RawRange<'_> {
     RawRange { start: passed(range.0), end: passed(range.1) }
 }

@@ -55,7 +55,7 @@ fn guarded(key: &[u8], against: Against) -> &'static [u8] {
 /// The keys of a question: a start and an end for each range, the key and the prefix.
 type Keys<'a> = [&'a [u8]; 6];
 
-fn question<'a>(keys: Keys<'a>, kinds: [u8; 4]) -> Question<'a> {
+fn question(keys: Keys<'_>, kinds: [u8; 4]) -> Question<'_> {
     let bound = |at: usize| RawBound { kind: kinds[at], key: keys[at] };
     let range = |at| RawRange { start: bound(at), end: bound(at + 1) };
     Question { first: range(0), second: range(2), key: keys[4], prefix: keys[5] }

@@ -1,0 +1,29 @@
+use borrow.Author.Needs.{needs}
+use mathlib.Core.Path.{ap, _∙_}
+use denote.Ref.{now}
+use Rattle.bounds.specs.Ranges.{sided}
+use Rattle.bounds.proofs.comparable_range.ComparableRange.intersect_start.Statement.{
+  statement,
+}
+use Rattle.bounds.proofs.comparable_range.ComparableRange.intersect_start.Tie as tie
+use Rattle.bounds.proofs.comparable_range.ComparableRange.intersect_start.Reads as reads
+use Rattle.bounds.proofs.comparable_range.ComparableRange.intersect_start.Lts as lts
+use Rattle.bounds.proofs.comparable_range.Side.key.Reads as key-reads
+use Rattle.bounds.proofs.comparable_range.max_start.Reads as max-start-reads
+
+-- src/comparable_range.rt:192:13
+max-start-requires : tie.Need-max-start-requires
+max-start-requires c κs = search needs
+
+-- src/comparable_range.rt:193:9
+key-requires : tie.Need-key-requires
+key-requires c κs = search needs
+
+-- src/comparable_range.rt:182:5
+returns : tie.Need-returns
+returns c =
+    let x = c .before .before .before .before .args in
+    c .key .ensures ∙ ap (λ s. sided s (now (x .start-key)) (now (x .other-start-key))) (c .before .max-start .ensures)
+
+pub intersect-start-spec : {M : Type 1} → statement M
+intersect-start-spec = tie.close (tie.spec max-start-requires key-requires returns)
