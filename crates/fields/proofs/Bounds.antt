@@ -11,42 +11,39 @@ use Rattle.bounds.specs.Bounds.{Bound, unbounded, included, excluded, bound}
 use Rattle.bounds.specs.Ranges.{range}
 use Rattle.fields.specs.declared.Places.{Places}
 use Rattle.fields.specs.Fields.{field, before, onSome, fields, asBound, boundList, pairOf, boundsOf}
-use Rattle.fields.specs.Forms.{ItemAt, EndAt, BrokenAt, NoBoundAt, BoundsAt, NoBoundsIn, firstOf}
+use Rattle.fields.specs.Forms.{ItemAt, EndAt, CutAt, NoBoundAt, BoundsAt, NoBoundsIn, firstOf, boundTag}
 use Rattle.fields.proofs.Lists.{list-nil, list-cut, list-item, list-broken, list-more}
 
-no-bound : {bs : List ℕ} {at : ℕ} → BrokenAt boundList bs at → NoBoundAt bs at
-no-bound b = record { lacks = ap firstOf (b .breaks) }
-
-pub bounds-cut : {bs : List ℕ} {at : ℕ} → BrokenAt fields bs at → NoBoundAt bs at
-bounds-cut b = no-bound (list-cut asBound b)
+pub bounds-cut : {bs : List ℕ} {at : ℕ} → CutAt bs at → NoBoundAt bs at
+bounds-cut b = record { lacks = ap firstOf (list-cut asBound b) }
 
 pub bounds-end : {bs : List ℕ} {at : ℕ} → EndAt bs at → NoBoundAt bs at
 bounds-end b = record { lacks = ap firstOf (ap boundList (b .ends) ∙ list-nil asBound) }
 
-module _ {bs : List ℕ} {at tag from to : ℕ} (i : ItemAt fields bs at from to (field tag (slice from to bs))) where
-  pub unbounded-here : tag ≡ 0x10 → to ≤ from → ItemAt boundList bs at from to unbounded
+module _ {bs : List ℕ} {at tag from to : ℕ} (i : ItemAt fields bs at tag from to (field tag (slice from to bs))) where
+  pub unbounded-here : tag ≡ 0x10 → to ≤ from → ItemAt boundList bs at 0x10 from to unbounded
   unfolding asBound
   unbounded-here e k =
       let n : length (slice from to bs) ≡ 0 = length-slice from to bs (i .within) ∙ omega arith in
-      list-item asBound i unbounded (rw (eq-eqb tag 0x10 e, n))
+      list-item asBound i 0x10 unbounded e (rw (eq-eqb tag 0x10 e, n))
 
   pub unbounded-full : tag ≡ 0x10 → from < to → NoBoundAt bs at
   unfolding asBound
   unbounded-full e k =
       let n : length (slice from to bs) ≡ 0 → ⊥ = λ z. omega (arith, length-slice from to bs (i .within)) in
-      no-bound (list-broken asBound i (rw (eq-eqb tag 0x10 e, ne-eqb (length (slice from to bs)) 0 n)))
+      record { lacks = ap firstOf (list-broken asBound i (rw (eq-eqb tag 0x10 e, ne-eqb (length (slice from to bs)) 0 n))) }
 
-  pub included-here : tag ≡ 0x11 → ItemAt boundList bs at from to (included (slice from to bs))
+  pub included-here : tag ≡ 0x11 → ItemAt boundList bs at 0x11 from to (included (slice from to bs))
   unfolding asBound
-  included-here e = list-item asBound i (included (slice from to bs)) (rw e)
+  included-here e = list-item asBound i 0x11 (included (slice from to bs)) e (rw e)
 
-  pub excluded-here : tag ≡ 0x12 → ItemAt boundList bs at from to (excluded (slice from to bs))
+  pub excluded-here : tag ≡ 0x12 → ItemAt boundList bs at 0x12 from to (excluded (slice from to bs))
   unfolding asBound
-  excluded-here e = list-item asBound i (excluded (slice from to bs)) (rw e)
+  excluded-here e = list-item asBound i 0x12 (excluded (slice from to bs)) e (rw e)
 
   pub tag-unknown : (tag ≡ 0x10 → ⊥) → (tag ≡ 0x11 → ⊥) → (tag ≡ 0x12 → ⊥) → NoBoundAt bs at
   unfolding asBound
-  tag-unknown e f g = no-bound (list-broken asBound i (rw (ne-eqb tag 0x10 e, ne-eqb tag 0x11 f, ne-eqb tag 0x12 g)))
+  tag-unknown e f g = record { lacks = ap firstOf (list-broken asBound i (rw (ne-eqb tag 0x10 e, ne-eqb tag 0x11 f, ne-eqb tag 0x12 g))) }
 
 -- the two together
 no-pair : (o : Option (List Bound)) → firstOf o ≡ none → onSome o pairOf ≡ none
@@ -69,12 +66,12 @@ module _ (bs : List ℕ) where
   unfolding boundsOf
   start-lacks b = record { breaks = no-pair (boundList bs) (b .lacks) }
 
-  module _ (from to : ℕ) (s : Bound) (i : ItemAt boundList bs 0 from to s) where
+  module _ (tag from to : ℕ) (s : Bound) (i : ItemAt boundList bs 0 tag from to s) where
     pub end-lacks : NoBoundAt bs to → NoBoundsIn bs
     unfolding boundsOf
     end-lacks b = record { breaks = rw (i .reads) (no-second s (boundList (drop to bs)) (b .lacks)) }
 
-    module _ (from′ to′ : ℕ) (e : Bound) (j : ItemAt boundList bs to from′ to′ e) where
+    module _ (tag′ from′ to′ : ℕ) (e : Bound) (j : ItemAt boundList bs to tag′ from′ to′ e) where
       pub more-left : to′ < length bs → NoBoundsIn bs
       unfolding boundsOf
       more-left h = record { breaks = rw (i .reads, j .reads) (third s e (boundList (drop to′ bs)) (list-more asBound (drop to′ bs) (rw length-drop (omega arith)))) }
@@ -84,8 +81,16 @@ module _ (bs : List ℕ) where
       both h = rw (i .reads, j .reads, drop-of-length-le bs h, list-nil asBound)
 
 pub bounds-here : (bs : List ℕ) (p : Places)
-    → ItemAt boundList bs 0 (p .«start_from») (p .«start_to») (bound (p .start) (slice (p .«start_from») (p .«start_to») bs))
-    → ItemAt boundList bs (p .«start_to») (p .«end_from») (p .«end_to») (bound (p .end) (slice (p .«end_from») (p .«end_to») bs))
+    → ItemAt boundList bs 0 (boundTag (p .start)) (p .«start_from») (p .«start_to») (bound (p .start) (slice (p .«start_from») (p .«start_to») bs))
+    → ItemAt boundList bs (p .«start_to») (boundTag (p .end)) (p .«end_from») (p .«end_to») (bound (p .end) (slice (p .«end_from») (p .«end_to») bs))
     → length bs ≤ p .«end_to»
     → BoundsAt bs p
-bounds-here bs p i j h = record { start-ordered = i .ordered; start-within = i .within; end-ordered = j .ordered; end-within = j .within; reads = both bs _ _ _ i _ _ _ j h }
+bounds-here bs p i j h =
+    record {
+      start-begins = i .begins;
+      start-ends = i .ends;
+      end-begins = j .begins;
+      end-ends = j .ends;
+      whole = omega (arith, j .within);
+      reads = both bs _ _ _ _ i _ _ _ _ j h;
+    }

@@ -3,7 +3,9 @@ use Prim.Native.Nat.{ℕ, _-_, _≤_, _<_}
 use mathlib.Core.Path.{_≡_, refl, ap, _∙_}
 use mathlib.Core.Bool.{Bool, true, false, cond, _&&_, and-true, and-false}
 use mathlib.Core.List.{List}
+use mathlib.Core.Logic.{inl, inr}
 use mathlib.Core.Option.{Option, none, some}
+use native.Mathlib.Omega.{arith}
 use borrow.Author.Tests.{eq-eqb, ne-eqb, le-leb, lt-leb}
 use lib.Dec.{leb}
 use lib.ListN.{length, drop}
@@ -11,20 +13,25 @@ use lib.Seq.{slice, length-slice}
 use Rattle.keys.specs.Limit.{keyLimit}
 use Rattle.fields.specs.declared.Form.{Form}
 use Rattle.fields.specs.Fields.{field, before, fields, asKey, keyList}
-use Rattle.fields.specs.Forms.{ItemAt, EndAt, BrokenAt, shortKeys, formOf}
+use Rattle.fields.specs.Forms.{ItemAt, EndAt, CutAt, NoKeyAt, shortKeys, formOf}
 use Rattle.fields.proofs.Lists.{list-nil, list-cut, list-item, list-broken}
 
-pub keys-cut : {bs : List ℕ} {at : ℕ} → BrokenAt fields bs at → BrokenAt keyList bs at
-keys-cut b = list-cut asKey b
+pub keys-cut : {bs : List ℕ} {at : ℕ} → CutAt bs at → NoKeyAt bs at
+keys-cut b = record { left = b .left; wrong = inl (b .passes); breaks = list-cut asKey b }
 
-module _ {bs : List ℕ} {at tag from to : ℕ} (i : ItemAt fields bs at from to (field tag (slice from to bs))) where
-  pub key-here : tag ≡ 0x4b → ItemAt keyList bs at from to (slice from to bs)
+module _ {bs : List ℕ} {at tag from to : ℕ} (i : ItemAt fields bs at tag from to (field tag (slice from to bs))) where
+  pub key-here : tag ≡ 0x4b → ItemAt keyList bs at 0x4b from to (slice from to bs)
   unfolding asKey
-  key-here e = list-item asKey i (slice from to bs) (rw (eq-eqb tag 0x4b e))
+  key-here e = list-item asKey i 0x4b (slice from to bs) e (rw (eq-eqb tag 0x4b e))
 
-  pub key-broken : (tag ≡ 0x4b → ⊥) → BrokenAt keyList bs at
+  pub key-broken : (tag ≡ 0x4b → ⊥) → NoKeyAt bs at
   unfolding asKey
-  key-broken e = list-broken asKey i (rw (ne-eqb tag 0x4b e))
+  key-broken e =
+      record {
+        left = omega (arith, i .begins, i .ends, i .within);
+        wrong = inr (λ z. e (i .tagged ∙ z));
+        breaks = list-broken asKey i (rw (ne-eqb tag 0x4b e));
+      }
 
 -- the verdict on what is left of a list, by whether the keys before it were short
 abbrev pub formAfter : Bool → Option (List (List ℕ)) → Form
@@ -46,10 +53,10 @@ module _ (bs : List ℕ) (at : ℕ) (short : Bool) where
   unfolding shortKeys
   form-end e = rw (e .ends, list-nil asKey) (ap (λ b. cond b Form.Good Form.Long) (and-true short))
 
-  pub form-bad : BrokenAt keyList bs at → formAfter short (keyList (drop at bs)) ≡ Form.Malformed
+  pub form-bad : NoKeyAt bs at → formAfter short (keyList (drop at bs)) ≡ Form.Malformed
   form-bad b = rw (b .breaks)
 
-  module _ (from to : ℕ) (i : ItemAt keyList bs at from to (slice from to bs)) where
+  module _ (from to : ℕ) (i : ItemAt keyList bs at 0x4b from to (slice from to bs)) where
     pub form-long : keyLimit < to - from → formAfter short (keyList (drop at bs)) ≡ formAfter false (keyList (drop to bs))
     form-long h =
         let n : leb (length (slice from to bs)) keyLimit ≡ false = lt-leb (length (slice from to bs)) keyLimit (rw (length-slice from to bs (i .within)) h) in

@@ -4,4 +4,4 @@ pub mod Lists
 pub mod Keys
 pub mod Bounds
 pub mod Writing
-pub mod Once
+pub mod OneAnswer

@@ -1,11 +1,11 @@
 -- Lists of things that are read from fields: what a reader finds at a place, from the field there.
 use Prim.Native.Nat.{ℕ, _<_}
-use mathlib.Core.Path.{_≡_, refl}
+use mathlib.Core.Path.{_≡_, refl, sym, _∙_}
 use mathlib.Core.List.{List, [], _∷_}
 use mathlib.Core.Option.{Option, none, some, Option·none-ne-some}
 use lib.ListN.{length, drop}
 use Rattle.fields.specs.Fields.{Field, before, onSome, fields, each, fieldsAs}
-use Rattle.fields.specs.Forms.{ItemAt, BrokenAt}
+use Rattle.fields.specs.Forms.{ItemAt, CutAt}
 use Rattle.fields.proofs.Steps.{before-some, fields-nil, fields-more}
 
 module _ {A : Type 0} (read : Field → Option A) where
@@ -38,21 +38,22 @@ module _ {A : Type 0} (read : Field → Option A) where
       go (some (f ∷ fs)) g z = first (read f) (each read fs) z
 
   module _ {bs : List ℕ} {at : ℕ} where
-    pub list-cut : BrokenAt fields bs at → BrokenAt (fieldsAs read) bs at
+    pub list-cut : CutAt bs at → fieldsAs read (drop at bs) ≡ none
     unfolding fieldsAs
-    list-cut b = record { breaks = rw (b .breaks) }
+    list-cut b = rw (b .breaks)
 
-    module _ {from to : ℕ} {f : Field} (i : ItemAt fields bs at from to f) where
-      pub list-item : (a : A) → read f ≡ some a → ItemAt (fieldsAs read) bs at from to a
+    module _ {tag from to : ℕ} {f : Field} (i : ItemAt fields bs at tag from to f) where
+      pub list-item : (t : ℕ) (a : A) → tag ≡ t → read f ≡ some a → ItemAt (fieldsAs read) bs at t from to a
       unfolding fieldsAs
-      list-item a e =
+      list-item t a d e =
           record {
+            tagged = sym d ∙ i .tagged;
             begins = i .begins;
-            ordered = i .ordered;
+            ends = i .ends;
             within = i .within;
             reads = rw (i .reads) (each-before f a (fields (drop to bs)) e);
           }
 
-      pub list-broken : read f ≡ none → BrokenAt (fieldsAs read) bs at
+      pub list-broken : read f ≡ none → fieldsAs read (drop at bs) ≡ none
       unfolding fieldsAs
-      list-broken e = record { breaks = rw (i .reads) (each-broken f (fields (drop to bs)) e) }
+      list-broken e = rw (i .reads) (each-broken f (fields (drop to bs)) e)

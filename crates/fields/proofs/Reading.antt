@@ -10,7 +10,7 @@ use lib.Dec.{leb}
 use lib.ListN.{length, take, drop, getD, length-drop, drop-of-length-le}
 use lib.Seq.{slice, drop-cons, drop-drop, drop-at, take-add, length-take-le}
 use Rattle.fields.specs.Fields.{field, before, fields}
-use Rattle.fields.specs.Forms.{ItemAt, EndAt, BrokenAt}
+use Rattle.fields.specs.Forms.{ItemAt, EndAt, CutAt, sizeAt}
 use Rattle.fields.proofs.Steps.{fields-short, fields-step}
 
 byte : (bs : List ℕ) (i j : ℕ) → j ≡ suc i → i < length bs → drop i bs ≡ getD bs i 0 ∷ drop j bs
@@ -24,8 +24,8 @@ module _ (bs : List ℕ) (at : ℕ) where
   pub ends-at : length bs ≤ at → EndAt bs at
   ends-at h = record { ends = drop-of-length-le bs h }
 
-  pub head-cut : at < length bs → length bs - at < 3 → BrokenAt fields bs at
-  head-cut h k = record { breaks = fields-short (drop at bs) (rw length-drop (omega arith)) (rw length-drop (omega arith)) }
+  pub head-cut : at < length bs → length bs - at < 3 → CutAt bs at
+  head-cut h k = record { left = h; passes = omega arith; breaks = fields-short (drop at bs) (rw length-drop (omega arith)) (rw length-drop (omega arith)) }
 
   module _ (h l : ℕ) (room : at + 3 ≤ length bs) (high : h ≡ getD bs (at + 1) 0) (low : l ≡ getD bs (at + 2) 0) where
     head-bytes : drop at bs ≡ getD bs at 0 ∷ h ∷ l ∷ drop (at + 3) bs
@@ -45,15 +45,20 @@ module _ (bs : List ℕ) (at : ℕ) where
         none
     step-at = ap fields head-bytes ∙ fields-step (getD bs at 0) h l (drop (at + 3) bs)
 
-    pub payload-cut : length bs - (at + 3) < h * 256 + l → BrokenAt fields bs at
-    payload-cut k = record { breaks = step-at ∙ rw (lt-leb (h * 256 + l) (length (drop (at + 3) bs)) (rw length-drop k)) }
+    size-here : h * 256 + l ≡ sizeAt bs at
+    unfolding sizeAt
+    size-here = rw (high, low)
+
+    pub payload-cut : length bs - (at + 3) < h * 256 + l → CutAt bs at
+    payload-cut k = record { left = omega arith; passes = omega (arith, size-here); breaks = step-at ∙ rw (lt-leb (h * 256 + l) (length (drop (at + 3) bs)) (rw length-drop k)) }
 
     pub field-here : h * 256 + l ≤ length bs - (at + 3)
-        → ItemAt fields bs at (at + 3) (at + 3 + (h * 256 + l)) (field (getD bs at 0) (slice (at + 3) (at + 3 + (h * 256 + l)) bs))
+        → ItemAt fields bs at (getD bs at 0) (at + 3) (at + 3 + (h * 256 + l)) (field (getD bs at 0) (slice (at + 3) (at + 3 + (h * 256 + l)) bs))
     field-here k =
         record {
+          tagged = refl;
           begins = refl;
-          ordered = omega arith;
+          ends = ap (λ n. at + 3 + n) size-here;
           within = omega arith;
           reads =
               step-at

@@ -1,6 +1,6 @@
 -- Demand 2 on values: while nothing is refused, the machine's state is the Rust's, and its answers are the Rust's own.
 use Prim.Native.Nat.{ℕ, suc, _<_, max}
-use mathlib.Core.Path.{_≡_, refl, sym, ap, subst}
+use mathlib.Core.Path.{_≡_, refl, sym, ap, subst, _∙_}
 use mathlib.Core.Bool.{Bool, true, false, cond, true≢false, false≢true}
 use mathlib.Core.List.{List, [], _∷_, _++_, map}
 use mathlib.Core.Option.{Option, none, some}
@@ -17,10 +17,18 @@ use Rattle.machine.specs.Calls.{Op, begin, check, commit, batch, dropTxn
 use Rattle.machine.specs.Serve.{state, entry, verdict, answer, serve}
 use Rattle.machine.specs.History.{World, run, start, next}
 use Rattle.machine.specs.Table.{tracking}
-use Rattle.machine.specs.Rust.{Committed, Manager, manager, expect, checkTxn, checkHasConflict, onRange, committed, clearIdle, recycle, rust, rustRun, Same, Agree, Value, Unrefused}
+use Rattle.machine.specs.Rust.{Committed, Manager, manager, checkTxn, checkHasConflict, minWith, minStartedSeq, onRange, committed, clearIdle, retains, recycle, asNumber, rust, rustRun, Same, Agree, Value, Unrefused}
 use Rattle.machine.proofs.Kept.{refusal-number}
 use Rattle.machine.proofs.RustVerdict.{verdict-same}
 use Rattle.machine.proofs.Effects.{begun, joined, dropped, Adds, adds-writes, adds-reads, adds-range, Seeks, seeks-writes, seeks-reads, seeks-range, seeks-check, Effect, refuses, misses, nobody, advances, prunes, checks, sees-least, begins, tracks, commits, batches, drops, effect}
+
+-- ---------------------------------------------------------------- the minimum
+
+least-same : (ts : List Txn) → minStartedSeq ts ≡ least ts
+unfolding minStartedSeq leastOf
+least-same [] = refl
+least-same (t ∷ []) = refl
+least-same (t ∷ u ∷ us) = ap (λ m. some (minWith (t .start) m)) (least-same (u ∷ us))
 
 -- ---------------------------------------------------------------- retained entries
 
@@ -32,23 +40,23 @@ same-append (c ∷ cs) [] k n ks s = absurd s
 same-append (c ∷ cs) (e ∷ es) k n ks s = (s .0, same-append cs es k n ks (s .1))
 
 same-entered : (left : List Txn) (cs : List Committed) (es : List Entry) (k n : ℕ) (ks : List Bytes) → Same cs es
-    → Same (clearIdle (least left) (cs ++ (committed k n ks ∷ []))) (append left es (entry n ks))
-unfolding append
+    → Same (clearIdle (minStartedSeq left) (cs ++ (committed k n ks ∷ []))) (append left es (entry n ks))
+unfolding append minStartedSeq
 same-entered [] cs es k n ks s = tt
 same-entered (t ∷ ts) cs es k n ks s = same-append cs es k n ks s
 
 same-keep : (m : ℕ) (cs : List Committed) (es : List Entry) → Same cs es
-    → Same (keep (λ c. leb m (expect (c .committedSeq))) cs) (keep (λ e. leb m (e .seq)) es)
+    → Same (keep (λ c. retains m (c .committedSeq)) cs) (keep (λ e. leb m (e .seq)) es)
 unfolding keep
 same-keep m [] [] s = tt
 same-keep m [] (e ∷ es) s = absurd s
 same-keep m (c ∷ cs) [] s = absurd s
 same-keep m (c ∷ cs) (e ∷ es) s =
-    step (leb m (expect (c .committedSeq))) (leb m (e .seq)) (ap (λ n. leb m (expect n)) (s .0 .0))
+    step (retains m (c .committedSeq)) (leb m (e .seq)) (ap (retains m) (s .0 .0))
     (same-keep m cs es (s .1))
   where
     kept : List Committed
-    kept = keep (λ c. leb m (expect (c .committedSeq))) cs
+    kept = keep (λ c. retains m (c .committedSeq)) cs
 
     left : List Entry
     left = keep (λ e. leb m (e .seq)) es
@@ -60,10 +68,10 @@ same-keep m (c ∷ cs) (e ∷ es) s =
     step false true z ih = absurd (false≢true z)
 
 same-prune : (left : List Txn) (cs : List Committed) (es : List Entry) → Same cs es
-    → Same (recycle (least left) cs) (prune left es)
+    → Same (recycle (minStartedSeq left) cs) (prune left es)
 unfolding prune
-same-prune [] cs es s = tt
-same-prune (t ∷ ts) cs es s = same-keep (leastOf t ts) cs es s
+same-prune [] cs es s = rw (least-same []) tt
+same-prune (t ∷ ts) cs es s = rw (least-same (t ∷ ts)) (same-keep (leastOf t ts) cs es s)
 
 same-length : (cs : List Committed) (es : List Entry) → Same cs es → length es ≡ length cs
 same-length [] [] s = refl
@@ -72,6 +80,10 @@ same-length (c ∷ cs) [] s = absurd s
 same-length (c ∷ cs) (e ∷ es) s = ap suc (same-length cs es (s .1))
 
 -- ---------------------------------------------------------------- every call
+
+verdict-number : (b : Bool) → verdict b ≡ asNumber b
+verdict-number true = refl
+verdict-number false = refl
 
 abbrev pub AgreeRoom : Manager → Room → Type 0
 AgreeRoom m short = ⊥
@@ -130,7 +142,7 @@ module _ (L : Ceilings) (s : State) (cs : List Committed) (q : Same cs (s .entri
   abbrev pruned : Bytes → List Entry
   pruned i = prune (without i (s .active)) (s .entries)
 
-  pruned-same : (i : Bytes) → Same (recycle (least (without i (s .active))) cs) (pruned i)
+  pruned-same : (i : Bytes) → Same (recycle (minStartedSeq (without i (s .active))) cs) (pruned i)
   pruned-same i = same-prune (without i (s .active)) cs (s .entries) q
 
   by-effect : (c : Op) (x : Answer) → Effect L s c x → Replies beforehand c (reply s x)
@@ -146,8 +158,8 @@ module _ (L : Ceilings) (s : State) (cs : List Committed) (q : Same cs (s .entri
       (replies-absent beforehand (dropTxn i) s (length (pruned i)) (dropped s i) (agree (dropped s i) _ (pruned-same i)))
   by-effect _ _ (checks i t e) =
       replies-done beforehand (check i) s (verdict (conflict t (s .entries))) s (agree s cs q)
-      (rw e (ap verdict (sym (verdict-same t cs (s .entries) q))))
-  by-effect _ _ (sees-least n e) = replies-done beforehand minimum s n s (agree s cs q) e
+      (rw (e, verdict-same t cs (s .entries) q) (verdict-number (conflict t (s .entries))))
+  by-effect _ _ (sees-least n e) = replies-done beforehand minimum s n s (agree s cs q) (least-same (s .active) ∙ e)
   by-effect _ _ (begins i u p d e f) =
       rw p (replies-done beforehand (begin i) s (s .last) (begun s i) (agree (begun s i) cs q) refl)
   by-effect c _ (tracks i t t' u w p e a f) =
@@ -170,7 +182,7 @@ module _ (L : Ceilings) (s : State) (cs : List Committed) (q : Same cs (s .entri
   by-effect _ _ (drops i t u p e) =
       rw p
       (replies-done beforehand (dropTxn i) s (length (pruned i)) (dropped s i) (agree (dropped s i) _ (pruned-same i))
-      (same-length (recycle (least (without i (s .active))) cs) (pruned i) (pruned-same i)))
+      (same-length (recycle (minStartedSeq (without i (s .active))) cs) (pruned i) (pruned-same i)))
 
 manager-is : (m : Manager) (s : State) → Agree m s → m ≡ manager (s .active) (m .recentCommittedTxns) (s .last)
 manager-is m s a = λ i. manager (a .active i) (m .recentCommittedTxns) (a .last i)
@@ -186,15 +198,16 @@ agrees L s m c a =
 
 -- the Rust answers false for an id that is not active, whose check has status 1 and value 0
 check-agrees : (L : Ceilings) (s : State) (m : Manager) (i : Bytes) → Agree m s → length i ≡ 16
-    → serve L (holding s) (on (check i)) .value ≡ verdict (checkHasConflict i m)
+    → serve L (holding s) (on (check i)) .value ≡ asNumber (checkHasConflict i m)
 unfolding serve answer checkHasConflict
 check-agrees L s m i a e = rw (eq-eqb (length i) 16 e, a .active) (go (find i (s .active)))
   where
     go : (o : Option Txn)
         → reply s (given o (absent 0 s) >>= λ t. done (verdict (conflict t (s .entries))) s) .value
-        ≡ verdict (checkTxn (m .recentCommittedTxns) o)
+        ≡ asNumber (checkTxn (m .recentCommittedTxns) o)
     go none = refl
-    go (some t) = ap verdict (sym (verdict-same t (m .recentCommittedTxns) (s .entries) (a .entries)))
+    go (some t) =
+        rw (verdict-same t (m .recentCommittedTxns) (s .entries) (a .entries)) (verdict-number (conflict t (s .entries)))
 
 -- min_active_seq as a reply: "minimum: that start", or 1 "with nobody active"
 abbrev pub minimumReply : Room → Option ℕ → Reply
@@ -202,9 +215,9 @@ minimumReply room none = replied 1 0 room
 minimumReply room (some n) = replied 0 n room
 
 minimum-agrees : (L : Ceilings) (s : State) (m : Manager) → Agree m s
-    → serve L (holding s) (on minimum) ≡ minimumReply (holding s) (least (m .activeTxns))
+    → serve L (holding s) (on minimum) ≡ minimumReply (holding s) (minStartedSeq (m .activeTxns))
 unfolding serve answer
-minimum-agrees L s m a = rw (a .active) (go (least (s .active)))
+minimum-agrees L s m a = rw (a .active, least-same (s .active)) (go (least (s .active)))
   where
     go : (o : Option ℕ) → reply s (given o (absent 0 s) >>= λ n. done n s) ≡ minimumReply (holding s) o
     go none = refl
@@ -216,8 +229,8 @@ pub record Equals (L : Ceilings) (m : Manager) (room : Room) : Type 0 where
   pub held : State
   pub holds : room ≡ holding held
   pub same : Agree m held
-  pub verdicts : (i : Bytes) → length i ≡ 16 → serve L room (on (check i)) .value ≡ verdict (checkHasConflict i m)
-  pub least-start : serve L room (on minimum) ≡ minimumReply room (least (m .activeTxns))
+  pub verdicts : (i : Bytes) → length i ≡ 16 → serve L room (on (check i)) .value ≡ asNumber (checkHasConflict i m)
+  pub least-start : serve L room (on minimum) ≡ minimumReply room (minStartedSeq (m .activeTxns))
   pub answers : (c : Op) → Replies m c (serve L room (on c))
 
 room-equals : (L : Ceilings) (m : Manager) (room : Room) → AgreeRoom m room → Equals L m room

@@ -1,6 +1,8 @@
--- The Rust's manager as functions on values. A HashMap or a HashSet has one ascending list: `extend` is insertAll, `insert`
--- is put, `remove` is without, `get` is find. The calls come with the arguments that the machine's calls carry.
-use Prim.Native.Nat.{ℕ, _<_, max}
+-- The Rust's manager as functions on values, with none of the machine's own steps. Shared with the machine, and no more:
+-- Txn, an active TransactionState beside its id (its committed_seq is None); a HashSet's one ascending list, where `extend` is
+-- insertAll; a HashMap's, where `insert` is put, `get` is find and `remove` is without; and the equality of keys. Their laws
+-- stand in SetLaws.antt and ActiveLaws.antt. The calls come with the arguments that the machine's calls carry.
+use Prim.Native.Nat.{ℕ, _<_, min, max}
 use mathlib.Core.Path.{_≡_}
 use mathlib.Core.Bool.{Bool, true, false, cond, not, _&&_, _||_}
 use mathlib.Core.List.{List, [], _∷_, _++_}
@@ -11,9 +13,9 @@ use Rattle.bounds.specs.Ranges.{Range, holds}
 use Rattle.fields.specs.Fields.{keyList, boundsOf}
 use Rattle.machine.specs.Lists.{any, keep}
 use Rattle.machine.specs.State.{Bytes, Txn, Entry, State, Ceilings}
-use Rattle.machine.specs.Sets.{equal, insertAll, put, find, without, least}
+use Rattle.machine.specs.Sets.{equal, insertAll, put, find, without}
 use Rattle.machine.specs.Calls.{Op, begin, trackWrites, trackReads, trackRange, check, commit, batch, dropTxn, minimum, Call, fresh, on, Room, Reply}
-use Rattle.machine.specs.Serve.{newTxn, addWrites, addReads, addRange, verdict, serve}
+use Rattle.machine.specs.Serve.{serve}
 use Rattle.machine.specs.Table.{isNil}
 
 -- TransactionState of a committed one
@@ -30,7 +32,7 @@ pub record Manager : Type 0 where
   pub recentCommittedTxns : List Committed
   pub oracle : ℕ
 
--- `expect`: none is a panic, and a warning in `retain`; it is never met (Same, below)
+-- `expect`: none is a panic; it is never met (Same, below)
 abbrev pub expect : Option ℕ → ℕ
 expect none = 0
 expect (some n) = n
@@ -63,6 +65,35 @@ checkHasConflict i m = checkTxn (m .recentCommittedTxns) (find i (m .activeTxns)
 abbrev pub manager : List Txn → List Committed → ℕ → Manager
 manager ts cs n = record { activeTxns = ts; recentCommittedTxns = cs; oracle = n }
 
+-- new_transaction's TransactionState: `started_seq: seq`, and all sets empty
+abbrev pub newTransaction : Bytes → ℕ → Txn
+newTransaction i seq = record { id = i; start = seq; writes = []; reads = []; ranges = [] }
+
+-- `self.write_keys.extend(keys)`
+abbrev pub trackWriteKeys : List Bytes → Txn → Txn
+trackWriteKeys keys t =
+    record { id = t .id; start = t .start; writes = insertAll keys (t .writes); reads = t .reads; ranges = t .ranges }
+
+-- `self.read_keys.extend(keys)`
+abbrev pub trackReadKeys : List Bytes → Txn → Txn
+trackReadKeys keys t =
+    record { id = t .id; start = t .start; writes = t .writes; reads = insertAll keys (t .reads); ranges = t .ranges }
+
+-- `self.read_ranges.push(range)`
+abbrev pub trackReadRange : Range → Txn → Txn
+trackReadRange range t =
+    record { id = t .id; start = t .start; writes = t .writes; reads = t .reads; ranges = t .ranges ++ (range ∷ []) }
+
+-- the lesser of a number and the least of the others, if there are others
+abbrev pub minWith : ℕ → Option ℕ → ℕ
+minWith n none = n
+minWith n (some m) = min n m
+
+-- min_active_seq and min_conflict_check_seq, one expression in the Rust: the `min` of every started_seq, None of nobody's
+unfoldable pub minStartedSeq : List Txn → Option ℕ
+minStartedSeq [] = none
+minStartedSeq (t ∷ ts) = some (minWith (t .start) (minStartedSeq ts))
+
 -- `if let Some(txn_state) = active_txns.get_mut(txn_id)`
 abbrev pub getMut : (Txn → Txn) → Manager → Option Txn → Manager
 getMut f m none = m
@@ -78,15 +109,20 @@ abbrev pub clearIdle : Option ℕ → List Committed → List Committed
 clearIdle none cs = []
 clearIdle (some n) cs = cs
 
--- recycle_recent_committed_txns: retain committed_seq >= min_seq, or clear
+-- `retain`: committed_seq >= min_seq; one without is warned of and kept, and is never met (Same, below)
+abbrev pub retains : ℕ → Option ℕ → Bool
+retains minSeq none = true
+retains minSeq (some n) = leb minSeq n
+
+-- recycle_recent_committed_txns: retain, or clear
 abbrev pub recycle : Option ℕ → List Committed → List Committed
 recycle none cs = []
-recycle (some m) cs = keep (λ c. leb m (expect (c .committedSeq))) cs
+recycle (some minSeq) cs = keep (λ c. retains minSeq (c .committedSeq)) cs
 
 -- the state enters, and the oracle advances: `fetch_max`
 abbrev pub commitState : List Txn → Committed → ℕ → Manager → Manager
 commitState left c n m =
-    manager left (clearIdle (least left) (m .recentCommittedTxns ++ (c ∷ []))) (max (m .oracle) n)
+    manager left (clearIdle (minStartedSeq left) (m .recentCommittedTxns ++ (c ∷ []))) (max (m .oracle) n)
 
 abbrev pub commitTxn : Bytes → ℕ → Manager → Option Txn → Manager
 commitTxn i n m none = manager (m .activeTxns) (m .recentCommittedTxns) (max (m .oracle) n)
@@ -101,16 +137,16 @@ onRange none f m = m
 onRange (some r) f m = f r
 
 unfoldable pub rust : Op → Manager → Manager
-rust (begin i) m = manager (put (newTxn i (m .oracle)) (m .activeTxns)) (m .recentCommittedTxns) (m .oracle)
-rust (trackWrites i bs) m = getMut (addWrites (listed (keyList bs))) m (find i (m .activeTxns))
-rust (trackReads i bs) m = getMut (addReads (listed (keyList bs))) m (find i (m .activeTxns))
-rust (trackRange i bs) m = onRange (boundsOf bs) (λ r. getMut (addRange r) m (find i (m .activeTxns))) m
+rust (begin i) m = manager (put (newTransaction i (m .oracle)) (m .activeTxns)) (m .recentCommittedTxns) (m .oracle)
+rust (trackWrites i bs) m = getMut (trackWriteKeys (listed (keyList bs))) m (find i (m .activeTxns))
+rust (trackReads i bs) m = getMut (trackReadKeys (listed (keyList bs))) m (find i (m .activeTxns))
+rust (trackRange i bs) m = onRange (boundsOf bs) (λ r. getMut (trackReadRange r) m (find i (m .activeTxns))) m
 rust (check i) m = m
 rust (commit i n) m = commitTxn i n m (find i (m .activeTxns))
 rust (batch n bs) m = commitState (m .activeTxns) (committed n n (insertAll (listed (keyList bs)) [])) n m
 rust (dropTxn i) m =
     let left = without i (m .activeTxns) in
-    manager left (recycle (least left) (m .recentCommittedTxns)) (m .oracle)
+    manager left (recycle (minStartedSeq left) (m .recentCommittedTxns)) (m .oracle)
 rust minimum m = m
 
 unfoldable pub rustRun : Manager → List Op → Manager
@@ -133,17 +169,22 @@ pub record Agree (m : Manager) (s : State) : Type 0 where
   pub last : m .oracle ≡ s .last
   pub entries : Same (m .recentCommittedTxns) (s .entries)
 
+-- "check: 1 conflict, 0 none"
+abbrev pub asNumber : Bool → ℕ
+asNumber false = 0
+asNumber true = 1
+
 -- a call's value by the Rust's own functions
 abbrev pub Value : Op → Manager → ℕ → Type 0
 Value (begin i) m v = v ≡ m .oracle
 Value (trackWrites i bs) m v = Unit {0}
 Value (trackReads i bs) m v = Unit {0}
 Value (trackRange i bs) m v = Unit {0}
-Value (check i) m v = v ≡ verdict (checkHasConflict i m)
+Value (check i) m v = v ≡ asNumber (checkHasConflict i m)
 Value (commit i n) m v = v ≡ rust (commit i n) m .oracle
 Value (batch n bs) m v = v ≡ rust (batch n bs) m .oracle
 Value (dropTxn i) m v = v ≡ length (rust (dropTxn i) m .recentCommittedTxns)
-Value minimum m v = least (m .activeTxns) ≡ some v
+Value minimum m v = minStartedSeq (m .activeTxns) ≡ some v
 
 -- "While no call has answered 2 to 7"
 abbrev pub Unrefused : Ceilings → Room → List Op → Type 0

@@ -36,7 +36,7 @@ enum-known-from : tie.Need-enum-known-from Inv-loop μ-loop
 enum-known-from c = search needs
 
 sub-if1 : tie.Need-sub-if1 Inv-loop μ-loop
-sub-if1 c = seen (c .before) .ordered
+sub-if1 c = omega (arith, seen (c .before))
 
 loop-less : tie.Need-loop-less Inv-loop μ-loop
 loop-less c = omega (arith, seen (c .before .before))

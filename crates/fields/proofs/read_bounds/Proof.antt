@@ -38,10 +38,10 @@ enum-told-2 : tie.Need-enum-told-2
 enum-told-2 c = search needs
 
 returns-2 : tie.Need-returns-2
-returns-2 c = end-lacks _ _ _ _ (start-seen (c .before .before .before .before)) (rw (c .enum-told2 .given .1) at (c .before .before .bound-at2 .ensures))
+returns-2 c = end-lacks _ _ _ _ _ (start-seen (c .before .before .before .before)) (rw (c .enum-told2 .given .1) at (c .before .before .bound-at2 .ensures))
 
 returns-3 : tie.Need-returns-3
-returns-3 c = more-left _ _ _ _ (start-seen (c .before .before .before .before .before .before)) _ _ _ (end-seen (c .before .before)) (c .if1 .taken)
+returns-3 c = more-left _ _ _ _ _ (start-seen (c .before .before .before .before .before .before)) _ _ _ _ (end-seen (c .before .before)) (c .if1 .taken)
 
 returns-4 : tie.Need-returns-4
 returns-4 c = bounds-here _ _ (start-seen (c .before .before .before .before .before .before)) (end-seen (c .before .before)) (c .if1 .left)
