@@ -1,0 +1,4 @@
+pub mod NumberLaws
+pub mod MoveLaws
+pub mod SpliceLaws
+pub mod RecordLaws
