@@ -1,5 +1,3 @@
 pub mod NumberLaws
-pub mod MoveLaws
-pub mod SpliceLaws
 pub mod RecordLaws
 pub mod RunLaws

@@ -1,3 +1,2 @@
-// Numbers in bytes and moves of bytes, for records that are kept in a lent run of bytes.
-pub mod moves;
+// Numbers in bytes, for records that are kept in a lent run of bytes.
 pub mod numbers;

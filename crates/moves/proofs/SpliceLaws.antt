@@ -6,8 +6,8 @@ use mathlib.Core.List.{List, [], _∷_, _++_, append-assoc}
 use native.Mathlib.Omega.{arith}
 use lib.ListN.{length, take, drop, length-append, length-drop}
 use lib.Seq.{paste, take-paste, drop-paste, length-take-le, take-length, take-append-le, take-take, take-at, drop-at, drop-drop, take-nil}
-use Rattle.codec.proofs.MoveLaws.{stays}
-use Rattle.codec.specs.Places.{Spliced, usedAfter}
+use Rattle.moves.proofs.MoveLaws.{stays}
+use Rattle.moves.specs.Splices.{Spliced, usedAfter}
 
 pub drop-take : (a b : ℕ) (l : List ℕ) → drop a (take b l) ≡ take (b - a) (drop a l)
 drop-take zero b l = let e : b - 0 ≡ b = omega arith in rw e

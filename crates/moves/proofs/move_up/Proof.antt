@@ -1,8 +1,8 @@
 use native.Mathlib.Omega.{arith}
 use borrow.Author.Needs.{needs}
-use Rattle.codec.proofs.MoveLaws.{Up, up-start, up-next, up-end}
-use Rattle.codec.proofs.moves.move_up.Statement.{statement}
-use Rattle.codec.proofs.moves.move_up.Tie as tie
+use Rattle.moves.proofs.MoveLaws.{Up, up-start, up-next, up-end}
+use Rattle.moves.proofs.move_up.Statement.{statement}
+use Rattle.moves.proofs.move_up.Tie as tie
 
 abbrev Inv-loop : tie.InvT-loop
 Inv-loop room₀ from to n left₀ room left = Up room₀ from to n room left

@@ -1,8 +1,8 @@
 use native.Mathlib.Omega.{arith}
-use Rattle.codec.proofs.SpliceLaws.{spliced}
+use Rattle.moves.proofs.SpliceLaws.{spliced}
 use borrow.Author.Needs.{needs}
-use Rattle.codec.proofs.moves.splice.Statement.{statement}
-use Rattle.codec.proofs.moves.splice.Tie as tie
+use Rattle.moves.proofs.splice.Statement.{statement}
+use Rattle.moves.proofs.splice.Tie as tie
 
 add-tail : tie.Need-add-tail
 add-tail c = search needs

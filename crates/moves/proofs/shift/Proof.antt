@@ -1,8 +1,8 @@
 use native.Mathlib.Omega.{arith}
-use Rattle.codec.proofs.MoveLaws.{stays}
+use Rattle.moves.proofs.MoveLaws.{stays}
 use borrow.Author.Needs.{needs}
-use Rattle.codec.proofs.moves.shift.Statement.{statement}
-use Rattle.codec.proofs.moves.shift.Tie as tie
+use Rattle.moves.proofs.shift.Statement.{statement}
+use Rattle.moves.proofs.shift.Tie as tie
 
 move-up-requires : tie.Need-move-up-requires
 move-up-requires c κs = search needs

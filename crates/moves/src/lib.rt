@@ -1,8 +1,9 @@
+// Moves of bytes within a lent run of bytes, up to the splice.
 ghost use mathlib.Core.Path.{_≡_};
 ghost use Prim.Native.Nat.{_+_, _≤_};
 ghost use lib.ListN.{length, drop};
 ghost use lib.Seq.{paste};
-ghost use Rattle.codec.specs.Places.{Spliced, usedAfter};
+ghost use Rattle.moves.specs.Splices.{Spliced, usedAfter};
 
 // Copies `n` bytes from one place to a later one, the last byte first.
 pub fn move_up(room: &mut [u8], from: usize, to: usize, n: usize)
