@@ -1,0 +1,5 @@
+pub mod Keys
+pub mod Records
+pub mod States
+pub mod Rooms
+pub mod Places
