@@ -1,0 +1,97 @@
+-- What a record at a place is, for any format: its bytes, its one value, and the parts that it is made of.
+use Prim.Native.Nat.{ℕ, suc, _+_, _-_, _≤_, _<_, _^_}
+use mathlib.Core.Path.{_≡_, refl, sym, ap, ap₂, _∙_}
+use mathlib.Core.Bool.{Bool, true}
+use mathlib.Core.List.{List, [], _∷_, _++_, append-assoc}
+use native.Mathlib.Omega.{arith}
+use native.Mathlib.Numerals.{add-one}
+use lib.ListN.{length, take, drop, length-append, length-drop}
+use lib.Seq.{slice, take-append-seam, take-at, drop-drop, drop-at}
+use Rattle.codec.specs.Codec.{Item, item, cut, Codec, onItem, guard, writeRun}
+use Rattle.codec.specs.CodecLaws.{came, Came, guarded}
+use Rattle.codec.specs.Formats.{number, raw, bind, only, via}
+use Rattle.codec.specs.Places.{Stands}
+use Rattle.codec.proofs.RecordLaws.{stands-length}
+use Rattle.codec.proofs.NumberLaws.{length-number}
+use Rattle.moves.proofs.SpliceLaws.{drop-take}
+use Rattle.layout.specs.Places.{Part}
+
+module _ {A : Type 0} (C : Codec A) where
+  pub part-bytes : {s : List ℕ} {at e : ℕ} {a : A} → Part C s at a e → drop at s ≡ C .write a ++ drop e s
+  part-bytes {s} {at} {e} {a} p = C .read-is (drop at s) a (drop e s) (p .stands .reads) .0
+
+  pub part-ok : {s : List ℕ} {at e : ℕ} {a : A} → Part C s at a e → C .Ok a
+  part-ok {s} {at} {e} {a} p = C .read-is (drop at s) a (drop e s) (p .stands .reads) .1
+
+  pub part-end : {s : List ℕ} {at e : ℕ} {a : A} → Part C s at a e → e ≡ at + length (C .write a)
+  part-end {s} {at} {e} {a} p = stands-length C (p .stands) (omega (arith, p .from, p .inside)) (p .inside)
+
+  -- the bytes of a record, where it stands
+  pub part-slice : {s : List ℕ} {at e : ℕ} {a : A} → Part C s at a e → slice at e s ≡ C .write a
+  part-slice {s} {at} {e} {a} p =
+      let l : e - at ≡ length (C .write a) = omega (arith, part-end p) in
+      drop-take at e s ∙ rw (part-bytes p, l) (take-append-seam (C .write a) (drop e s))
+
+  -- a record that is written at a place stands there
+  pub part-of : (s : List ℕ) (at : ℕ) (a : A) (q : List ℕ) → C .Ok a → at ≤ length s → drop at s ≡ C .write a ++ q → Part C s at a (at + length (C .write a))
+  part-of s at a q o h e =
+      let x : drop (at + length (C .write a)) s ≡ q = rw (← drop-drop (length (C .write a)) at s, e) (drop-at (C .write a) q (length (C .write a)) refl) in
+      let l : length s - at ≡ length (C .write a) + length q = sym (length-drop at s) ∙ ap length e ∙ length-append (C .write a) q in
+      record {
+        stands = record { reads = rw (e, x) (C .write-is a q o) };
+        from = omega arith;
+        inside = omega arith;
+      }
+
+  -- one value and one end
+  pub part-one : {s : List ℕ} {at e f : ℕ} {a b : A} → Part C s at a e → Part C s at b f → (a ≡ b) × (e ≡ f)
+  part-one {s} {at} {e} {f} {a} {b} p q =
+      let g : item a (drop e s) ≡ item b (drop f s) = sym (p .stands .reads) ∙ q .stands .reads in
+      let h : drop e s ≡ drop f s = cc g in
+      let l : length s - e ≡ length s - f = sym (length-drop e s) ∙ ap length h ∙ length-drop f s in
+      (cc g, omega (arith, p .inside, q .inside))
+
+pub record Both {A B : Type 0} (C : Codec A) (D : A → Codec B) (s : List ℕ) (at : ℕ) (p : A × B) (e : ℕ) : Type 0 where
+  pub middle : ℕ
+  pub one : Part C s at (p .0) middle
+  pub two : Part (D (p .0)) s middle (p .1) e
+
+pub both : {A B : Type 0} (C : Codec A) (D : A → Codec B) {s : List ℕ} {at e : ℕ} {p : A × B} → Part (bind C D) s at p e → Both C D s at p e
+unfolding bind
+both C D {s} {at} {e} {p} w =
+    let o = part-ok (bind C D) w in
+    let b : drop at s ≡ C .write (p .0) ++ (D (p .0) .write (p .1) ++ drop e s) = part-bytes (bind C D) w ∙ append-assoc (C .write (p .0)) (D (p .0) .write (p .1)) (drop e s) in
+    let h : at ≤ length s = omega (arith, w .from, w .inside) in
+    let one = part-of C s at (p .0) (D (p .0) .write (p .1) ++ drop e s) (o .0) h b in
+    let m : ℕ = at + length (C .write (p .0)) in
+    let t : drop m s ≡ D (p .0) .write (p .1) ++ drop e s = rw (← drop-drop (length (C .write (p .0))) at s, b) (drop-at (C .write (p .0)) (D (p .0) .write (p .1) ++ drop e s) (length (C .write (p .0))) refl) in
+    let two = part-of (D (p .0)) s m (p .1) (drop e s) (o .1) (one .inside) t in
+    let l : m + length (D (p .0) .write (p .1)) ≡ e = omega (arith, part-end (bind C D) w, length-append (C .write (p .0)) (D (p .0) .write (p .1))) in
+    record { middle = m; one = one; two = ap-end l two }
+  where
+    ap-end : {s : List ℕ} {at e f : ℕ} → e ≡ f → Part (D (p .0)) s at (p .1) e → Part (D (p .0)) s at (p .1) f
+    ap-end q x = rw (← q) x
+
+pub through : {A B : Type 0} (C : Codec A) (to : A → B) (from : B → A) (back : (b : B) → to (from b) ≡ b) (same : (a : A) → C .Ok a → from (to a) ≡ a) {s : List ℕ} {at e : ℕ} {b : B}
+    → Part (via C to from back same) s at b e → Part C s at (from b) e
+unfolding via
+through C to from back same {s} {at} {e} {b} w =
+    let x = via C to from back same in
+    record { stands = record { reads = rw (part-bytes x w) (C .write-is (from b) (drop e s) (part-ok x w)) }; from = w .from; inside = w .inside }
+
+pub tested : {A : Type 0} (C : Codec A) (test : A → Bool) {s : List ℕ} {at e : ℕ} {a : A} → Part (only C test) s at a e → Part C s at a e × (test a ≡ true)
+unfolding only
+tested C test {s} {at} {e} {a} w =
+    let x = only C test in
+    (record { stands = record { reads = rw (part-bytes x w) (C .write-is a (drop e s) (part-ok x w .0)) }; from = w .from; inside = w .inside }, part-ok x w .1)
+
+pub number-end : (k : ℕ) {s : List ℕ} {at e n : ℕ} → Part (number k) s at n e → e ≡ at + k
+number-end k {s} {at} {e} {n} p = part-end (number k) p ∙ rw (length-number k n)
+
+-- the number that is read at a place is the one that stands there
+pub number-read-is : (k : ℕ) {s : List ℕ} {at e n r f : ℕ} → Part (number k) s at n e → Stands (number k) s at r f → r ≡ n
+number-read-is k {s} {at} {e} {n} {r} {f} p q = let g : item r (drop f s) ≡ item n (drop e s) = sym (q .reads) ∙ p .stands .reads in cc g
+
+pub raw-slice : (k : ℕ) {s : List ℕ} {at e : ℕ} {a : List ℕ} → Part (raw k) s at a e → (e ≡ at + k) × (slice at e s ≡ a)
+unfolding raw
+raw-slice k {s} {at} {e} {a} p = (part-end (raw k) p ∙ rw (part-ok (raw k) p), part-slice (raw k) p)
