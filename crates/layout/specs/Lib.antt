@@ -3,3 +3,4 @@ pub mod Records
 pub mod States
 pub mod Rooms
 pub mod Places
+pub mod Runs

@@ -1,0 +1,63 @@
+-- The demands on rooms of bytes, for every call that keeps the one contract.
+use Prim.Native.Nat.{ℕ, _<_}
+use mathlib.Core.Path.{_≡_, refl, sym, ap, _∙_, subst}
+use mathlib.Core.List.{List, [], _∷_}
+use mathlib.Core.Option.{some}
+use native.Mathlib.Omega.{arith}
+use Rattle.machine.specs.State.{Bytes, Txn, Ceilings}
+use Rattle.machine.specs.Sets.{find}
+use Rattle.machine.specs.Calls.{Call, fresh, on, check, Room, short, broken, holding, Reply, replied}
+use Rattle.machine.specs.Serve.{state, serve}
+use Rattle.machine.specs.History.{World, next, run, start, activeOf, Verdict, Lives}
+use Rattle.machine.proofs.Record.{demand-3, never-7}
+use Rattle.machine.proofs.Stays.{stays-said}
+use Rattle.layout.specs.Rooms.{load, ServedBy}
+use Rattle.layout.specs.Runs.{Then, Passed, Alike}
+
+module _ (L : Ceilings) where
+  -- "any two results allowed for one call are equal", but for unused bytes
+  pub one-result : (room : List ℕ) (c : Call) (s v : ℕ) (r : List ℕ) (s' v' : ℕ) (r' : List ℕ) → ServedBy L room c s v r → ServedBy L room c s' v' r' → Alike L s v r s' v' r'
+  one-result room c s v r s' v' r' a b =
+      let e : replied s v (load L r) ≡ replied s' v' (load L r') = sym (a .answers) ∙ b .answers in
+      record {
+        statuses = ap (λ (x : Reply). x .status) e;
+        values = ap (λ (x : Reply). x .value) e;
+        states = ap (λ (x : Reply). x .room) e;
+        beyond = a .beyond ∙ sym (b .beyond);
+      }
+
+  -- a run of calls on a room goes as the machine goes
+  passed-run : (w : World) (room : List ℕ) (cs : List Call) (room' : List ℕ) → load L room ≡ w .room → Passed L room cs room' → load L room' ≡ run L w cs .room
+  unfolding run
+  passed-run w room [] room' e p = ap (load L) p ∙ e
+  passed-run w room (c ∷ cs) room' e p =
+      let f : load L (p .left) ≡ serve L (w .room) c .room = sym (ap (λ (x : Reply). x .room) (p .served .answers)) ∙ ap (λ (x : Room). serve L x c .room) e in
+      passed-run (next L w c) (p .left) cs room' f (p .rest)
+
+  -- a room that fresh answered 0
+  module _ (old : List ℕ) (n v : ℕ) (made : List ℕ) (f : ServedBy L old (fresh n) 0 v made) (cs : List Call) (room : List ℕ) (p : Passed L made cs room) where
+    fresh-holds : load L made ≡ start n .room
+    unfolding serve
+    fresh-holds = go (load L old) (f .answers)
+      where
+        go : (x : Room) → serve L x (fresh n) ≡ replied 0 v (load L made) → load L made ≡ holding (state n [] [])
+        go short e = absurd (let z : _≡_ {A = ℕ} 7 0 = ap (λ (y : Reply). y .status) e in omega arith)
+        go broken e = sym (ap (λ (y : Reply). y .room) e)
+        go (holding s) e = sym (ap (λ (y : Reply). y .room) e)
+
+    holds-run : load L room ≡ run L (start n) cs .room
+    holds-run = passed-run (start n) made cs room fresh-holds p
+
+    -- "A room made fresh, written only by the calls and passed whole never gets 7."
+    pub room-never-7 : (c : Call) (s u : ℕ) (after : List ℕ) → ServedBy L room c s u after → s < 7
+    room-never-7 c s u after a =
+        let e : serve L (run L (start n) cs .room) c .status ≡ s = ap (λ (x : Room). serve L x c .status) (sym holds-run) ∙ ap (λ (x : Reply). x .status) (a .answers) in
+        subst (λ (k : ℕ). k < 7) e (never-7 L n cs c)
+
+    -- demand 3: a check of an active transaction says conflict exactly when the full record says so
+    pub room-demand-3 : (i : Bytes) (t : Txn) (s u : ℕ) (after : List ℕ) → find i (activeOf (load L room)) ≡ some t → ServedBy L room (on (check i)) s u after
+        → Verdict t (run L (start n) cs .history) (replied s u (load L after))
+    room-demand-3 i t s u after e a =
+        subst (Verdict t (run L (start n) cs .history))
+        (ap (λ (x : Room). serve L x (on (check i))) (sym holds-run) ∙ a .answers)
+        (demand-3 L n cs i t (subst (λ (x : Room). find i (activeOf x) ≡ some t) holds-run e))

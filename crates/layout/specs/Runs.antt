@@ -1,0 +1,28 @@
+-- Runs of calls on a room: each call leaves what its contract allows.
+use Prim.Native.Nat.{ℕ}
+use mathlib.Core.Path.{_≡_}
+use mathlib.Core.List.{List, [], _∷_}
+use lib.ListN.{drop}
+use Rattle.machine.specs.State.{Ceilings}
+use Rattle.machine.specs.Calls.{Call}
+use Rattle.layout.specs.States.{roomSize}
+use Rattle.layout.specs.Rooms.{load, ServedBy}
+
+pub record Then (L : Ceilings) (room : List ℕ) (c : Call) (more : List ℕ → Type 0) : Type 0 where
+  pub status : ℕ
+  pub value : ℕ
+  pub left : List ℕ
+  pub served : ServedBy L room c status value left
+  pub rest : more left
+
+-- "any sequence of them, refused ones included", on a room "written only by the calls and passed whole"
+abbrev pub Passed : Ceilings → List ℕ → List Call → List ℕ → Type 0
+Passed L room [] room' = room' ≡ room
+Passed L room (c ∷ cs) room' = Then L room c (λ left. Passed L left cs room')
+
+-- two results of one call are equal but for "unused bytes inside the room": the bytes of the room behind the state's record
+pub record Alike (L : Ceilings) (status value : ℕ) (room : List ℕ) (status' value' : ℕ) (room' : List ℕ) : Type 0 where
+  pub statuses : status ≡ status'
+  pub values : value ≡ value'
+  pub states : load L room ≡ load L room'
+  pub beyond : drop (roomSize L) room ≡ drop (roomSize L) room'
