@@ -1,0 +1,24 @@
+use native.Mathlib.Omega.{arith}
+use borrow.Author.Needs.{needs}
+use Rattle.layout.proofs.OpenLaws.{open-key}
+use Rattle.places.proofs.EndLaws.{ends-at, key-end}
+use Rattle.places.proofs.skips.key_past.Statement.{statement}
+use Rattle.places.proofs.skips.key_past.Tie as tie
+use Rattle.places.proofs.skips.key_past.Reads as reads
+use Rattle.places.proofs.skips.key_past.Lts as lts
+use Rattle.codec.proofs.numbers.read_two.Reads as read-two-reads
+
+add-result : tie.Need-add-result
+add-result c = search needs
+
+read-two-requires : tie.Need-read-two-requires
+read-two-requires c κs = open-key _ (c .before .pre .part) .length-at .inside
+
+add-result-2 : tie.Need-add-result-2
+add-result-2 c = omega (arith, key-end _ (c .before .before .pre .part) (c .read-two .ensures))
+
+returns : tie.Need-returns
+returns c = ends-at _ (c .before .before .pre .part) (key-end _ (c .before .before .pre .part) (c .read-two .ensures))
+
+pub key-past-spec : {M : Type 1} → statement M
+key-past-spec = tie.close (tie.spec add-result read-two-requires add-result-2 returns)

@@ -1,0 +1,2 @@
+// Walking over the parts of a room that is known to hold a state: nothing is validated again.
+pub mod skips;
