@@ -42,7 +42,7 @@ pub fn copy_in(room: &mut [u8], at: usize, src: &[u8])
 }
 
 // Copies `n` bytes from one place to another; a tail that stays where it is costs nothing.
-fn shift(room: &mut [u8], from: usize, to: usize, n: usize)
+pub fn shift(room: &mut [u8], from: usize, to: usize, n: usize)
     requires { ⌜ (from + n ≤ length (now room)) × (to + n ≤ length (now room)) ⌝ }
     ensures { λ _. ⌜ now (room .exit) ≡ paste (now (room .entry)) to (drop from (now (room .entry))) n ⌝ }
 {

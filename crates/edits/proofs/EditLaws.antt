@@ -1,0 +1,89 @@
+-- The bytes that the changes of a room put in and take out.
+use Prim.Native.Nat.{ℕ, _+_, _-_, _≤_}
+use native.Mathlib.Nat.{add-zero, le-refl}
+use mathlib.Core.Path.{_≡_, refl, sym, ap, _∙_}
+use mathlib.Core.List.{List, [], _∷_, _++_, append-assoc, append-nil}
+use native.Mathlib.Omega.{arith}
+use lib.ListN.{length, take, drop, length-append, length-replicate, replicate, drop-of-length-le}
+use lib.Seq.{paste, paste-zero, take-all, take-length}
+use Rattle.machine.specs.State.{Bytes, base}
+use Rattle.machine.specs.Serve.{newTxn}
+use Rattle.codec.specs.Codec.{writeRun, writeNumber}
+use Rattle.codec.specs.Formats.{number, raw, bind, only, via, run}
+use Rattle.codec.proofs.NumberLaws.{length-number}
+use Rattle.moves.specs.Splices.{Spliced, usedAfter}
+use Rattle.moves.proofs.SpliceLaws.{spliced, splice-on, paste-on}
+use Rattle.layout.specs.Keys.{setForm, rangesForm, listForm}
+use Rattle.layout.specs.Records.{headForm, txnForm, stamp}
+use Rattle.edits.specs.Edits.{freshHead}
+
+pub removed : (s s' : List ℕ) (used at n : ℕ) → at + n ≤ used → used ≤ length s → s' ≡ paste s at (drop (at + n) s) (used - (at + n)) → Spliced s used at n [] s'
+removed s s' used at n h k e =
+    spliced s [] used at n h k (omega arith) s' s' (e ∙ ap (λ (x : ℕ). paste s x (drop (at + n) s) (used - (at + n))) (sym (add-zero at))) (paste-zero s' at [])
+
+-- a copy over as many bytes as are there leaves the copied ones alone
+paste-whole : (d a : List ℕ) → length d ≡ length a → paste d 0 a (length a) ≡ a
+paste-whole d a e =
+    let x : drop (0 + length a) d ≡ [] = drop-of-length-le d {i = 0 + length a} (omega arith) in
+    rw (x, take-length a) (append-nil a)
+
+pub number-written : (z a : List ℕ) (n : ℕ) → length z ≡ 8 → a ≡ paste z 0 (number 8 .write n) 8 → a ≡ number 8 .write n
+number-written z a n h e =
+    let l : length (number 8 .write n) ≡ 8 = length-number 8 n in
+    e ∙ ap (λ (k : ℕ). paste z 0 (number 8 .write n) k) (sym l) ∙ paste-whole z (number 8 .write n) (omega arith)
+
+length-two : (a b : List ℕ) (n m : ℕ) → length a ≡ n → length b ≡ m → length (a ++ b) ≡ n + m
+length-two a b n m ea eb = length-append a b ∙ rw (ea, eb)
+
+-- two copies, one right after the other
+paste-two : (d : List ℕ) (at : ℕ) (a b : List ℕ) (n m : ℕ) (x y : List ℕ) → length a ≡ n → length b ≡ m → at + n + m ≤ length d
+    → x ≡ paste d at a n → y ≡ paste x (at + n) b m → y ≡ paste d at (a ++ b) (n + m)
+paste-two d at a b n m x y ea eb h ex ey =
+    let k : at + length a + length b ≤ length d = omega arith in
+    ey
+    ∙ ap (λ (z : List ℕ). paste z (at + n) b m) ex
+    ∙ rw (← ea, ← eb, ← length-append a b) (paste-on d at a b k)
+
+pub fresh-written : (s a b c d : List ℕ) (n : ℕ) → 20 ≤ length s
+    → a ≡ paste s 0 (number 8 .write stamp) 8 → b ≡ paste a 8 (number 8 .write n) 8 → c ≡ paste b 16 (number 2 .write 0) 2 → d ≡ paste c 18 (number 2 .write 0) 2
+    → d ≡ paste s 0 (headForm .write (freshHead n)) 20
+unfolding headForm via bind only
+fresh-written s a b c d n h ea eb ec ed =
+    let l1 : length (number 8 .write stamp) ≡ 8 = length-number 8 stamp in
+    let l2 : length (number 8 .write n) ≡ 8 = length-number 8 n in
+    let l3 : length (number 2 .write 0) ≡ 2 = length-number 2 0 in
+    let p1 = paste-two s 0 (number 8 .write stamp) (number 8 .write n) 8 8 a b l1 l2 (omega arith) ea eb in
+    let p2 = paste-two s 0 (number 8 .write stamp ++ number 8 .write n) (number 2 .write 0) 16 2 b c (length-two (number 8 .write stamp) (number 8 .write n) 8 8 l1 l2) l3 (omega arith) p1 ec in
+    let p3 =
+    paste-two s 0 ((number 8 .write stamp ++ number 8 .write n) ++ number 2 .write 0) (number 2 .write 0) 18 2 c d
+    (length-two (number 8 .write stamp ++ number 8 .write n) (number 2 .write 0) 16 2 (length-two (number 8 .write stamp) (number 8 .write n) 8 8 l1 l2) l3) l3 (omega arith) p2 ed in
+    let e : ((number 8 .write stamp ++ number 8 .write n) ++ number 2 .write 0) ++ number 2 .write 0 ≡ number 8 .write stamp ++ (number 8 .write n ++ (number 2 .write 0 ++ number 2 .write 0)) = simp append-assoc in
+    p3 ∙ ap (λ (x : List ℕ). paste s 0 x 20) e
+
+pub entry-put : (s s1 s2 head set : List ℕ) (used at n : ℕ) → at ≤ used → used ≤ length s → head ≡ number 8 .write n
+    → Spliced s used at 0 head s1 → Spliced s1 (used + 8) (at + 8) 0 set s2 → Spliced s used at 0 (number 8 .write n ++ set) s2
+entry-put s s1 s2 head set used at n h k e v w =
+    let l : length head ≡ 8 = ap length e ∙ length-number 8 n in
+    let u : used + 8 ≡ usedAfter used 0 head = omega arith in
+    let a : at + 8 ≡ at + length head = omega arith in
+    rw (← e) (splice-on (omega arith) k v (rw (u, a) at w))
+
+zeros-written : (d a b : List ℕ) (id : List ℕ) (n : ℕ) → d ≡ replicate 30 0 → length id ≡ 16 → a ≡ paste d 0 id (length id) → b ≡ paste a 16 (number 8 .write n) 8
+    → b ≡ (id ++ number 8 .write n) ++ replicate 6 0
+zeros-written d a b id n ed li ea eb =
+    let l : length (number 8 .write n) ≡ 8 = length-number 8 n in
+    let ld : length d ≡ 30 = ap length ed ∙ length-replicate {A = ℕ} 30 0 in
+    let x = paste-two d 0 id (number 8 .write n) 16 8 a b li l (omega arith) (ea ∙ ap (λ (k : ℕ). paste d 0 id k) li) eb in
+    let f : length (id ++ number 8 .write n) ≡ 24 = length-two id (number 8 .write n) 16 8 li l in
+    x ∙ rw (take-all 24 (id ++ number 8 .write n) (omega arith), ed)
+
+zeros : (id : List ℕ) (n : ℕ) → id ++ (number 8 .write n ++ replicate 6 0) ≡ id ++ (number 8 .write n ++ ((number 2 .write 0 ++ []) ++ ((number 2 .write 0 ++ []) ++ (number 2 .write 0 ++ []))))
+unfolding number writeNumber
+zeros id n = refl
+
+pub txn-put : (s s' d a b : List ℕ) (used at : ℕ) (id : List ℕ) (n : ℕ) → d ≡ replicate 30 0 → length id ≡ 16 → a ≡ paste d 0 id (length id) → b ≡ paste a 16 (number 8 .write n) 8
+    → Spliced s used at 0 b s' → Spliced s used at 0 (txnForm (base .key) .write (newTxn id n)) s'
+unfolding txnForm via bind raw setForm rangesForm listForm run writeRun
+txn-put s s' d a b used at id n ed li ea eb w =
+    let e : b ≡ txnForm (base .key) .write (newTxn id n) = zeros-written d a b id n ed li ea eb ∙ append-assoc id (number 8 .write n) (replicate 6 0) ∙ zeros id n in
+    rw (← e) w
