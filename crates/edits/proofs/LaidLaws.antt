@@ -43,8 +43,16 @@ pub record Laid (s0 s : List ℕ) (used l n k : ℕ) (es ts : List ℕ) : Type 0
 bytes-length : (l n k : ℕ) (es ts : List ℕ) → length (bytesOf l n k es ts) ≡ 20 + (length es + length ts)
 bytes-length l n k es ts = simp (length-append, length-number) (omega arith)
 
+-- a number written over another of its width
+pub over-spliced : (w : ℕ) (s s' : List ℕ) (used at x : ℕ) → s' ≡ paste s at (number w .write x) w → at + w ≤ used → used ≤ length s → Spliced s used at w (number w .write x) s'
+over-spliced w s s' used at x e h k =
+    let lx : length (number w .write x) ≡ w = length-number w x in
+    let f : paste s at (number w .write x) (length (number w .write x)) ≡ s' = ap (λ (m : ℕ). paste s at (number w .write x) m) lx ∙ sym e in
+    let g = written-over s (number w .write x) used at (omega arith) k in
+    subst (λ (m : ℕ). Spliced s used at m (number w .write x) s') lx (subst (Spliced s used at (length (number w .write x)) (number w .write x)) f g)
+
 module _ {s0 s : List ℕ} {used l n k : ℕ} {es ts : List ℕ} (v : Laid s0 s used l n k es ts) where
-  inside : used ≤ length s
+  pub inside : used ≤ length s
   inside = omega (arith, v .short, v .room, v .size)
 
   pub laid-used : used ≡ 20 + (length es + length ts)
@@ -67,16 +75,9 @@ module _ {s0 s : List ℕ} {used l n k : ℕ} {es ts : List ℕ} (v : Laid s0 s 
   laid-over : (w : ℕ) {s' : List ℕ} (at x y : ℕ) (p q : List ℕ) (l' n' k' : ℕ) → s' ≡ paste s at (number w .write x) w → bytesOf l n k es ts ≡ p ++ (number w .write y ++ q) → p ++ (number w .write x ++ q) ≡ bytesOf l' n' k' es ts
       → at ≡ length p → at + w ≤ used → Laid s0 s' used l' n' k' es ts
   laid-over w {s'} at x y p q l' n' k' e a b ea h =
-      let lx : length (number w .write x) ≡ w = length-number w x in
-      let ly : length (number w .write y) ≡ w = length-number w y in
-      let u : usedAfter used w (number w .write x) ≡ used = omega arith in
-      let f : paste s at (number w .write x) (length (number w .write x)) ≡ s' = ap (λ (m : ℕ). paste s at (number w .write x) m) lx ∙ sym e in
-      let g : Spliced s used at w (number w .write x) s' = go (length (number w .write x)) lx (paste s at (number w .write x) (length (number w .write x))) f (written-over s (number w .write x) used at (omega arith) inside) in
-      let r = laid-splice p (number w .write y) q l' n' k' es ts g a b ea (sym ly) (rw u (v .short)) in
+      let u : usedAfter used w (number w .write x) ≡ used = rw (length-number w x) (omega arith) in
+      let r = laid-splice p (number w .write y) q l' n' k' es ts (over-spliced w s s' used at x e h inside) a b ea (sym (length-number w y)) (rw u (v .short)) in
       rw u at r
-    where
-      go : (m : ℕ) → m ≡ w → (z : List ℕ) → z ≡ s' → Spliced s used at m (number w .write x) z → Spliced s used at w (number w .write x) s'
-      go m em z ez w' = subst (λ (y : ℕ). Spliced s used at y (number w .write x) s') em (subst (Spliced s used at m (number w .write x)) ez w')
 
   pub laid-last : {s' : List ℕ} (x : ℕ) → s' ≡ paste s 8 (number 8 .write x) 8 → Laid s0 s' used x n k es ts
   laid-last x e =

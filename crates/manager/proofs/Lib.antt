@@ -1,0 +1,5 @@
+pub mod StateLaws
+pub mod EnterLaws
+pub mod TrackLaws
+pub mod ChangeLaws
+pub mod InsideLaws
