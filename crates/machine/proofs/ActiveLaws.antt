@@ -54,7 +54,7 @@ above-ids : (p : Bytes) (us : List Txn) → Above p (ids us) → All (λ u. orde
 above-ids p [] a = tt
 above-ids p (u ∷ us) a = (a .0, above-ids p us (above-trans p (u .id) (ids us) (a .0) (a .1)))
 
-above-none : (p : Bytes) (us : List Txn) → Above p (ids us) → find p us ≡ none
+pub above-none : (p : Bytes) (us : List Txn) → Above p (ids us) → find p us ≡ none
 above-none p us a = find-none p us .1 (all-map _ _ (λ u. ap isSame) us (above-ids p us a))
 
 -- ids are distinct, so each active one is found by its id

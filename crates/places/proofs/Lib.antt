@@ -1,1 +1,5 @@
 pub mod EndLaws
+pub mod SplitLaws
+pub mod SeekLaws
+pub mod LowLaws
+pub mod FindLaws

@@ -1,0 +1,112 @@
+-- The search for an id: as far as it has come, and how it ends.
+use Prim.Native.Nat.{ℕ, _+_, _-_, _≤_}
+use mathlib.Core.Path.{_≡_, refl, sym, ap, _∙_}
+use mathlib.Core.Bool.{true, false}
+use mathlib.Core.List.{List, [], _∷_}
+use mathlib.Core.Ordering.{Ordering, lt, eq, gt}
+use native.Mathlib.Omega.{arith}
+use lib.IntN.{ℤ, pos}
+use lib.Signed.{ltZ}
+use mir.Syntax.{w8}
+use mir.Val.{toZ, ofZ}
+use lib.ListN.{length, take, drop}
+use Rattle.keys.specs.Order.{order, sign, isLess}
+use Rattle.keys.proofs.OrderLaws.{less-is}
+use Rattle.keys.proofs.Signs.{on-lt}
+use Rattle.machine.specs.State.{Bytes, Txn, base}
+use Rattle.machine.proofs.ListLaws.{all-append}
+use Rattle.moves.proofs.SpliceLaws.{drop-take}
+use Rattle.layout.specs.Records.{txnForm}
+use Rattle.layout.specs.Places.{Rows, Here, Ends}
+use Rattle.layout.proofs.OpenLaws.{open-txn}
+use Rattle.places.specs.declared.finds.Place.{Place}
+use Rattle.places.specs.Finds.{Passed, Found}
+use Rattle.places.proofs.SplitLaws.{split-one, Search, Turn, start, over, next}
+
+-- the sixteen bytes at a place, as a part of the room that is lent
+abbrev pub idAt : List ℕ → ℕ → Bytes
+idAt s e = take (e + 16 - e) (drop e s)
+
+abbrev pub Past : Bytes → List Txn → List Txn → Type 0
+Past id front rest = Passed id front
+
+abbrev pub Seek : List ℕ → ℕ → ℕ → Bytes → ℕ → ℕ → Type 0
+Seek s at n id e left = Search (txnForm (base .key)) (Past id) s at n e left
+
+pub seek-start : {s : List ℕ} {at n : ℕ} (id : Bytes) → Rows (txnForm (base .key)) s at n → Seek s at n id at n
+seek-start id x = start (txnForm (base .key)) (Past id) (λ xs. tt) x
+
+pub seek-end : {s : List ℕ} {at n : ℕ} (id : Bytes) {e left : ℕ} → Seek s at n id e left → left ≤ 0 → Found s at n id (Place.Before e)
+seek-end id x h =
+    let t = over (txnForm (base .key)) (Past id) x h in
+    record {
+      is = λ ts f r l.
+          let o = split-one (txnForm (base .key)) (t .walk) ts f r l in
+          record { front = t .front; back = []; whole = o .0; before = t .walk .before; after = rw (o .1) (t .walk .after); passed = t .holds; stops = tt };
+    }
+
+pub txn-inside : {s : List ℕ} {e : ℕ} → Here (txnForm (base .key)) s e → e + 24 ≤ length s
+txn-inside x = open-txn (base .key) (x .part) .start-at .inside
+
+-- what the tests of a comparison's answer say
+pub is-less : {o : Ordering} {r : ℤ} → r ≡ sign o → ltZ (toZ w8 (ofZ w8 r)) (pos 0) ≡ true → o ≡ lt
+is-less {o} e h = less-is o (on-lt o e h)
+
+pub is-same : {o : Ordering} {r : ℤ} → r ≡ sign o → ofZ w8 r ≡ 0 → o ≡ eq
+is-same {o} e h = go o (ap (ofZ w8) (sym e) ∙ h)
+  where
+    go : (o : Ordering) → ofZ w8 (sign o) ≡ 0 → o ≡ eq
+    go lt q = absurd (omega (arith, q))
+    go eq q = refl
+    go gt q = absurd (omega (arith, q))
+
+pub is-more : {o : Ordering} {r : ℤ} → r ≡ sign o → ltZ (toZ w8 (ofZ w8 r)) (pos 0) ≡ false → (ofZ w8 r ≡ 0 → ⊥) → o ≡ gt
+is-more {o} e h k = go o (on-lt o e h) (λ q. k (ap (ofZ w8) e ∙ q))
+  where
+    go : (o : Ordering) → isLess o ≡ false → (ofZ w8 (sign o) ≡ 0 → ⊥) → o ≡ gt
+    go lt q n = cc
+    go eq q n = absurd (n refl)
+    go gt q n = refl
+
+module _ {s : List ℕ} {at n : ℕ} (id : Bytes) {e left : ℕ} (t : Turn (txnForm (base .key)) (Past id) s at n e left) where
+  id-is : (o : Ordering) → order id (idAt s e) ≡ o → order id (t .one .id) ≡ o
+  id-is o q = ap (order id) (sym (open-txn (base .key) (t .walk .after .first) .id-at) ∙ drop-take e (e + 16) s) ∙ q
+
+  pub seek-before : order id (idAt s e) ≡ lt → Found s at n id (Place.Before e)
+  seek-before q =
+      record {
+        is = λ ts f r l.
+            let o = split-one (txnForm (base .key)) (t .walk) ts f r l in
+            record {
+              front = t .front;
+              back = t .one ∷ t .back;
+              whole = o .0;
+              before = t .walk .before;
+              after = rw (o .1) (t .walk .after);
+              passed = t .holds;
+              stops = id-is lt q;
+            };
+      }
+
+  pub seek-next : {r : ℕ} → Ends (txnForm (base .key)) s e r → order id (idAt s e) ≡ gt → Seek s at n id r (left - 1)
+  seek-next p q = next (txnForm (base .key)) (Past id) (Past id) t p (all-append (λ u. order id (u .id) ≡ gt) (t .front) (t .one ∷ []) (t .holds) (id-is gt q, tt))
+
+  pub seek-found : {r : ℕ} → Ends (txnForm (base .key)) s e r → order id (idAt s e) ≡ eq → Found s at n id (Place.Here e r)
+  seek-found {r} p q =
+      let w = t .walk in
+      let j : r ≡ w .after .end = p .is (t .one) (w .after .end) (w .after .first) in
+      record {
+        is = λ ts f r' l.
+            let o = split-one (txnForm (base .key)) w ts f r' l in
+            record {
+              front = t .front;
+              one = t .one;
+              back = t .back;
+              whole = o .0;
+              before = w .before;
+              part = rw j (w .after .first);
+              after = rw (j, o .1) (w .after .rest);
+              same = id-is eq q;
+              passed = t .holds;
+            };
+      }
