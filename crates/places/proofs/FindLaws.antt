@@ -1,4 +1,4 @@
--- What the search for an id says of the machine's active transactions: who is found, and what the list is with one put in or taken out.
+-- What the place that was found for an id says of the machine: who is found, and the list with one put in or taken out.
 use mathlib.Core.Path.{_≡_, refl, sym, ap, _∙_}
 use mathlib.Core.Bool.{not}
 use mathlib.Core.List.{List, [], _∷_, _++_}

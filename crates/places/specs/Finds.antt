@@ -32,7 +32,8 @@ pub record HereIn (s : List ℕ) (at : ℕ) (id : Bytes) (ts : List Txn) (e p q 
   pub same : order id (one .id) ≡ eq
   pub passed : Passed id front
 
--- none of them has the id, and one that has it belongs to p
+-- the id belongs to p: those before it have lesser ids, and the first after it, if any, a greater one; where the ids ascend,
+-- no one has it (`before-finds`)
 pub record BeforeIn (s : List ℕ) (at : ℕ) (id : Bytes) (ts : List Txn) (e p : ℕ) : Type 0 where
   pub front : List Txn
   pub back : List Txn
