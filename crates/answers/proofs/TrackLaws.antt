@@ -17,7 +17,7 @@ use Rattle.machine.specs.Calls.{trackWrites, trackReads, trackRange, malformed,
 use Rattle.machine.specs.Serve.{state, isId, shortRange, addWrites, addReads, addRange, track, answer}
 use Rattle.machine.proofs.Kept.{fits-means}
 use Rattle.machine.proofs.ActiveLaws.{find-id, put-known-sum, put-known-length}
-use Rattle.manager.proofs.StateLaws.{is-id, no-id, fits-not}
+use Rattle.answers.proofs.StateLaws.{is-id, no-id, fits-not}
 
 -- ---- once the list or the bounds are read, each track is one: i gets what f adds
 

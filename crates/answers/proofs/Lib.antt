@@ -3,3 +3,4 @@ pub mod EnterLaws
 pub mod TrackLaws
 pub mod ChangeLaws
 pub mod InsideLaws
+pub mod SightLaws

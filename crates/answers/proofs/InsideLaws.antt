@@ -20,7 +20,7 @@ use Rattle.layout.proofs.RowLaws.{write-append}
 use Rattle.edits.specs.declared.Kept.{Kept}
 use Rattle.edits.specs.Edits.{keptFrom, PrunedTo}
 use Rattle.edits.proofs.LaidLaws.{bytesOf, Laid, entriesOf, activeOf, inside, laid-used, over-spliced, laid-in-active}
-use Rattle.manager.proofs.ChangeLaws.{relaid, active-split}
+use Rattle.answers.proofs.ChangeLaws.{relaid, active-split}
 
 -- ---- entries that are pruned
 

@@ -17,7 +17,7 @@ use Rattle.machine.specs.Serve.{state, entry, isId, enter, answer}
 use Rattle.machine.proofs.Kept.{fits-means, fresh-ok}
 use Rattle.machine.proofs.ListLaws.{sum-append}
 use Rattle.machine.proofs.ActiveLaws.{without-sum, without-length, without-same}
-use Rattle.manager.proofs.StateLaws.{is-id, no-id, fits-not}
+use Rattle.answers.proofs.StateLaws.{is-id, no-id, fits-not}
 
 some-left : (left : List Txn) (es : List Entry) (e : Entry) → 0 < length left → append left es e ≡ es ++ (e ∷ [])
 unfolding append

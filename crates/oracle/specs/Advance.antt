@@ -1,0 +1,11 @@
+-- "advancing keeps the larger of old and new"
+use Prim.Native.Nat.{ℕ, max}
+use mathlib.Core.Path.{_≡_}
+use mathlib.Core.List.{List}
+use lib.Seq.{paste}
+use Rattle.codec.specs.Formats.{number}
+use Rattle.codec.specs.Places.{Stands}
+
+pub record Advanced (s : List ℕ) (seq : ℕ) (s' : List ℕ) (r : ℕ) : Type 0 where
+  pub larger : (last : ℕ) → Stands (number 8) s 8 last 16 → r ≡ max last seq
+  pub bytes : s' ≡ paste s 8 (number 8 .write r) 8

@@ -1,0 +1,2 @@
+// The last committed number of a room.
+pub mod oracle;
