@@ -16,7 +16,7 @@ behind done (item xs r) = item (done ++ xs) r
 behind done cut = cut
 
 module _ {A : Type 0} (C : Codec A) (before : A → A → Bool) where
-  read-more : (p : Option A) (n : ℕ) (bs : List ℕ) → 0 < n
+  pub read-more : (p : Option A) (n : ℕ) (bs : List ℕ) → 0 < n
       → readRun C before p n bs ≡ onItem (C .read bs) (λ a r. guard (fine C before p a) (onItem (readRun C before (some a) (n - 1) r) (λ xs r'. item (a ∷ xs) r')))
   unfolding readRun
   read-more p zero bs h = absurd (omega arith)
@@ -27,11 +27,11 @@ module _ {A : Type 0} (C : Codec A) (before : A → A → Bool) where
   read-none p zero bs h = refl
   read-none p (suc n) bs h = absurd (omega arith)
 
-  behind-none : (x : Item (List A)) → x ≡ behind [] x
+  pub behind-none : (x : Item (List A)) → x ≡ behind [] x
   behind-none (item xs r) = refl
   behind-none cut = refl
 
-  behind-one : (done : List A) (a : A) (x : Item (List A)) → behind done (onItem x (λ xs r. item (a ∷ xs) r)) ≡ behind (done ++ (a ∷ [])) x
+  pub behind-one : (done : List A) (a : A) (x : Item (List A)) → behind done (onItem x (λ xs r. item (a ∷ xs) r)) ≡ behind (done ++ (a ∷ [])) x
   behind-one done a (item xs r) = ap (λ (l : List A). item l r) (sym (append-assoc done (a ∷ []) xs))
   behind-one done a cut = refl
 
@@ -40,11 +40,11 @@ module _ {A : Type 0} (C : Codec A) (before : A → A → Bool) where
     pub done : List A
     pub same : readRun C before none n (drop at s) ≡ behind done (readRun C before p left (drop e s))
 
-  pub walk-start : (s : List ℕ) (at n : ℕ) → Walk s at n none at n
+  abbrev pub walk-start : (s : List ℕ) (at n : ℕ) → Walk s at n none at n
   walk-start s at n = record { done = []; same = behind-none (readRun C before none n (drop at s)) }
 
   module _ {s : List ℕ} {at n : ℕ} {p : Option A} {e left : ℕ} (v : Walk s at n p e left) where
-    pub walk-next : 0 < left → (a : A) (next : ℕ) → Stands C s e a next → fine C before p a ≡ true → Walk s at n (some a) next (left - 1)
+    abbrev pub walk-next : 0 < left → (a : A) (next : ℕ) → Stands C s e a next → fine C before p a ≡ true → Walk s at n (some a) next (left - 1)
     walk-next h a next w f =
         record {
           done = v .done ++ (a ∷ []);

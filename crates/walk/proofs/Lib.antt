@@ -1,0 +1,4 @@
+pub mod GoingLaws
+pub mod SetLaws
+pub mod RangeLaws
+pub mod EntryLaws

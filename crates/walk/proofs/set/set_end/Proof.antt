@@ -1,0 +1,30 @@
+use Rattle.walk.proofs.SetLaws.{set-short, set-ends}
+use borrow.Author.Needs.{needs}
+use Rattle.walk.proofs.set.set_end.Statement.{statement}
+use Rattle.walk.proofs.set.set_end.Tie as tie
+use Rattle.walk.proofs.set.set_end.Reads as reads
+use Rattle.walk.proofs.set.set_end.Lts as lts
+use Rattle.codec.proofs.numbers.read_two.Reads as read-two-reads
+use Rattle.walk.proofs.set.keys_end.Reads as keys-end-reads
+
+sub-if1 : tie.Need-sub-if1
+sub-if1 c = search needs
+
+returns : tie.Need-returns
+returns c = set-short _ _ (c .if1 .taken)
+
+read-two-requires : tie.Need-read-two-requires
+read-two-requires c κs = search needs
+
+add-keys-end : tie.Need-add-keys-end
+add-keys-end c = search needs
+
+keys-end-requires : tie.Need-keys-end-requires
+keys-end-requires c κs = search needs
+
+returns-2 : tie.Need-returns-2
+returns-2 c = set-ends _ _ _ (c .before .read-two .ensures) (c .keys-end .result) (c .keys-end .ensures)
+
+pub set-end-spec : {M : Type 1} → statement M
+set-end-spec =
+    tie.close (tie.spec sub-if1 returns read-two-requires add-keys-end keys-end-requires returns-2)

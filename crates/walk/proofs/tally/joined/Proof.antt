@@ -1,0 +1,21 @@
+use borrow.Author.Needs.{needs}
+use Rattle.walk.proofs.tally.joined.Statement.{statement}
+use Rattle.walk.proofs.tally.joined.Tie as tie
+use Rattle.walk.proofs.tally.joined.Reads as reads
+use Rattle.walk.proofs.tally.joined.Lts as lts
+use Rattle.walk.proofs.tally.larger.Reads as larger-reads
+
+add-marks : tie.Need-add-marks
+add-marks c = search needs
+
+add-bytes : tie.Need-add-bytes
+add-bytes c = search needs
+
+larger-requires : tie.Need-larger-requires
+larger-requires c κs = search needs
+
+returns : tie.Need-returns
+returns c = rw (c .larger .ensures)
+
+pub joined-spec : {M : Type 1} → statement M
+joined-spec = tie.close (tie.spec add-marks add-bytes larger-requires returns)

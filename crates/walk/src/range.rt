@@ -1,0 +1,116 @@
+ghost use mathlib.Core.Path.{_≡_};
+ghost use Prim.Native.Nat.{_+_, _≤_};
+ghost use lib.ListN.{length};
+ghost use Rattle.layout.specs.Keys.{anyOrder};
+ghost use Rattle.walk.specs.Counts.{aRange, someRanges, runOf};
+ghost use Rattle.walk.specs.Walks.{Walks, BoundIs, asBound};
+use crate::tally::Tally;
+use crate::tally::Walked;
+use bounds::comparable_range::ComparableRange;
+use bounds::kind::Kind;
+use keys::KEY_LIMIT;
+
+const UNBOUNDED: u8 = 0x10;
+
+const INCLUDED: u8 = 0x11;
+
+const EXCLUDED: u8 = 0x12;
+
+// The bound at a place: its kind, and where it ends.
+pub enum BoundAt {
+    Found(Kind, usize),
+    NoBound,
+}
+
+// The bound of a kind whose key was walked.
+fn bound_of(kind: Kind, key: Walked) -> BoundAt
+    ensures { λ r. ⌜ r ≡ asBound kind key ⌝ }
+{
+    match key {
+        Walked::Ends(t) => BoundAt::Found(kind, t.end),
+        Walked::Cut => BoundAt::NoBound,
+    }
+}
+
+fn bound_end(room: &[u8], at: usize) -> BoundAt
+    requires { ⌜ at ≤ length (now room) ⌝ }
+    ensures { λ r. ⌜ BoundIs (now (room .entry)) at r ⌝ }
+{
+    if room.len() - at < 1 {
+        return BoundAt::NoBound;
+    }
+    let tag = room[at];
+    if tag == UNBOUNDED {
+        return bound_of(Kind::Unbounded, crate::set::key_end(room, at + 1, 0));
+    }
+    if tag == INCLUDED {
+        return bound_of(Kind::Included, crate::set::key_end(room, at + 1, KEY_LIMIT));
+    }
+    if tag == EXCLUDED {
+        return bound_of(Kind::Excluded, crate::set::key_end(room, at + 1, KEY_LIMIT));
+    }
+    BoundAt::NoBound
+}
+
+// Where the range at a place ends, which is not empty.
+fn range_end(room: &[u8], at: usize) -> Walked
+    requires { ⌜ at ≤ length (now room) ⌝ }
+    ensures { λ r. ⌜ Walks aRange (now (room .entry)) at r ⌝ }
+{
+    match bound_end(room, at) {
+        BoundAt::NoBound => Walked::Cut,
+        BoundAt::Found(start, m) => match bound_end(room, m) {
+            BoundAt::NoBound => Walked::Cut,
+            BoundAt::Found(end, e) => {
+                let a = at + 3;
+                let b = m + 3;
+                let range = ComparableRange::new(start, end);
+                if range.non_empty(&room[a..m], &room[b..e]) {
+                    return Walked::Ends(Tally {
+                        end: e,
+                        marks: 1,
+                        bytes: m - a + (e - b),
+                        high: 0,
+                    });
+                }
+                Walked::Cut
+            }
+        },
+    }
+}
+
+// Where n ranges end.
+fn run_end(room: &[u8], at: usize, n: usize) -> Walked
+    requires { ⌜ at ≤ length (now room) ⌝ }
+    ensures { λ r. ⌜ Walks (runOf aRange anyOrder n) (now (room .entry)) at r ⌝ }
+{
+    let mut t = Tally {
+        end: at,
+        marks: 0,
+        bytes: 0,
+        high: 0,
+    };
+    let mut left = n;
+    while 0 < left {
+        match range_end(room, t.end) {
+            Walked::Ends(u) => {
+                t = crate::tally::joined(t, u);
+                left -= 1;
+            }
+            Walked::Cut => return Walked::Cut,
+        }
+    }
+    Walked::Ends(t)
+}
+
+// Where the list of ranges at a place ends.
+pub fn ranges_end(room: &[u8], at: usize) -> Walked
+    requires { ⌜ at ≤ length (now room) ⌝ }
+    ensures { λ r. ⌜ Walks someRanges (now (room .entry)) at r ⌝ }
+{
+    if room.len() - at < 2 {
+        return Walked::Cut;
+    }
+    let n = codec::numbers::read_two(room, at);
+    run_end(room, at + 2, n)
+}

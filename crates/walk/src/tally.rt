@@ -1,0 +1,40 @@
+ghost use mathlib.Core.Path.{_≡_};
+ghost use Prim.Native.Nat.{_+_, _≤_, max};
+ghost use Rattle.walk.specs.Counts.{plus};
+
+// What a walk counts up to a place: marks, key bytes, and the highest sequence or start.
+pub struct Tally {
+    pub end: usize,
+    pub marks: usize,
+    pub bytes: usize,
+    pub high: u64,
+}
+
+// Where a record ends with what it counts, or that none stands there.
+pub enum Walked {
+    Ends(Tally),
+    Cut,
+}
+
+fn larger(a: u64, b: u64) -> u64
+    ensures { λ r. ⌜ r ≡ max a b ⌝ }
+{
+    if a < b { b } else { a }
+}
+
+// What is counted up to a place with what the record at that place counts.
+pub fn joined(t: Tally, u: Tally) -> Tally
+    requires { ⌜ (t .marks + t .bytes ≤ t .end) × (t .end + u .marks + u .bytes ≤ u .end) ⌝ }
+    ensures { λ r. ⌜ r ≡ plus t u ⌝ }
+{
+    let end = u.end;
+    let marks = t.marks + u.marks;
+    let bytes = t.bytes + u.bytes;
+    let high = larger(t.high, u.high);
+    Tally {
+        end,
+        marks,
+        bytes,
+        high,
+    }
+}
