@@ -1,8 +1,8 @@
 -- Entries and transactions.
 use Prim.Native.Nat.{ℕ, _+_, _-_, _≤_, _<_}
 use mathlib.Core.Path.{_≡_, refl, sym, ap, ap₂, _∙_}
-use mathlib.Core.Bool.{Bool, true, false}
-use mathlib.Core.List.{List, [], _∷_, _++_, append-assoc}
+use mathlib.Core.Bool.{true}
+use mathlib.Core.List.{List, _++_, append-assoc}
 use native.Mathlib.Omega.{arith}
 use borrow.Author.Tests.{le-leb}
 use lib.Dec.{leb}
@@ -10,14 +10,13 @@ use lib.ListN.{length, take, drop, length-append, length-drop}
 use lib.Seq.{drop-drop, take-append-seam}
 use Rattle.keys.specs.Limit.{keyLimit}
 use Rattle.machine.specs.State.{Bytes, Txn}
-use Rattle.codec.specs.Codec.{Codec, item, cut}
-use Rattle.codec.specs.Formats.{number, raw, bind, only, via}
+use Rattle.codec.specs.Codec.{item}
+use Rattle.codec.specs.Formats.{number, raw, bind, via}
 use Rattle.codec.specs.Places.{Stands}
 use Rattle.codec.proofs.NumberLaws.{length-number}
 use Rattle.codec.proofs.RecordLaws.{too-short, stands-length}
 use Rattle.layout.specs.Keys.{setForm, rangesForm}
 use Rattle.layout.specs.Records.{entryForm, txnForm}
-use Rattle.layout.specs.Places.{Part}
 use Rattle.walk.specs.declared.tally.Tally.{Tally}
 use Rattle.walk.specs.Counts.{aSet, someRanges, anEntry, aTxn, plus}
 use Rattle.walk.specs.Walks.{Got, Missing}
@@ -53,8 +52,14 @@ least-txn : (t : Txn) → txnForm keyLimit .Ok t → 24 ≤ length (txnForm keyL
 unfolding txnForm via bind raw
 least-txn t o = simp length-append (omega (arith, o .0, length-number 8 (t .start)))
 
--- where the id stands
-pub txn-labelled : Labelled aTxn (λ t. t .id) (λ s p e. take 16 (drop p s)) 16
+-- a transaction's label is its id, which stands first
+abbrev pub idOf : Txn → Bytes
+idOf t = t .id
+
+abbrev pub idAt : List ℕ → ℕ → ℕ → Bytes
+idAt s p e = take 16 (drop p s)
+
+pub txn-labelled : Labelled aTxn idOf idAt 16
 unfolding txnForm via bind raw
 txn-labelled s at e t w =
     let x = txnForm keyLimit .read-is (drop at s) t (drop e s) (w .stands .reads) in

@@ -1,5 +1,5 @@
 -- A walk over a run of records that counts as it goes: the laws of the loops, for any kind of record.
-use Prim.Native.Nat.{ℕ, zero, suc, _+_, _-_, _≤_, _<_, max}
+use Prim.Native.Nat.{ℕ, _+_, _-_, _≤_, _<_, max}
 use mathlib.Core.Path.{_≡_, refl, sym, ap, ap₂, _∙_}
 use mathlib.Core.Bool.{Bool, true, false, _||_}
 use mathlib.Core.List.{List, [], _∷_, _++_}
@@ -8,7 +8,7 @@ use native.Mathlib.Omega.{arith}
 use borrow.Author.Tests.{eq-eqb, ne-eqb}
 use lib.Dec.{eqb}
 use lib.IntN.{ℤ, pos}
-use lib.ListN.{length, drop}
+use lib.ListN.{length}
 use lib.Signed.{ltZ}
 use mir.Syntax.{w8}
 use mir.Val.{toZ, ofZ}
@@ -17,7 +17,7 @@ use Rattle.keys.proofs.Signs.{lt-sign}
 use Rattle.machine.specs.Lists.{sum}
 use Rattle.machine.specs.State.{Bytes}
 use Rattle.machine.proofs.ListLaws.{sum-append}
-use Rattle.codec.specs.Codec.{Codec, fine}
+use Rattle.codec.specs.Codec.{fine}
 use Rattle.codec.specs.Formats.{run}
 use Rattle.codec.proofs.RunLaws.{Walk, walk-start, walk-next, walk-cut, walk-unfit, walk-end}
 use Rattle.layout.specs.Keys.{anyOrder, below}

@@ -2,26 +2,23 @@
 use Prim.Native.Nat.{ℕ, _+_, _-_, _≤_, _<_}
 use mathlib.Core.Path.{_≡_, refl, sym, ap, ap₂, _∙_}
 use mathlib.Core.Bool.{Bool, true, false}
-use mathlib.Core.List.{List, [], _∷_, _++_}
+use mathlib.Core.List.{List}
 use native.Mathlib.Omega.{arith}
 use borrow.Author.Tests.{ne-eqb}
-use lib.Dec.{eqb}
-use lib.ListN.{length, take, drop, getD, length-drop}
+use lib.ListN.{length, drop, getD, length-drop}
 use lib.Seq.{length-take-le}
 use Rattle.keys.specs.Limit.{keyLimit}
-use Rattle.bounds.specs.Bounds.{Bound, unbounded, included, excluded, bound}
+use Rattle.bounds.specs.Bounds.{included, excluded, bound}
 use Rattle.bounds.specs.declared.kind.Kind.{Kind}
 use Rattle.bounds.specs.declared.kind.Kind.the-variants.{Unbounded, Included, Excluded}
 use Rattle.bounds.specs.declared.comparable_range.ComparableRange.{ComparableRange}
 use Rattle.bounds.specs.Ranges.{Range, range, rangeOf, notEmpty, notEmptyPair}
-use Rattle.fields.specs.Forms.{boundTag}
 use Rattle.machine.specs.State.{Bytes, rangeBytes}
-use Rattle.codec.specs.Codec.{Codec, Item, item, cut}
+use Rattle.codec.specs.Codec.{item}
 use Rattle.codec.specs.Formats.{number, bind, only, via}
 use Rattle.codec.specs.Places.{Stands}
 use Rattle.codec.proofs.NumberLaws.{stands-number}
-use Rattle.layout.specs.Keys.{keyForm, boundForm, pairForm, rangeForm, rangesForm, anyOrder}
-use Rattle.layout.specs.Places.{Part}
+use Rattle.layout.specs.Keys.{boundForm, pairForm, rangeForm, rangesForm, anyOrder}
 use Rattle.walk.specs.declared.tally.Tally.{Tally}
 use Rattle.walk.specs.declared.tally.Walked.{Walked}
 use Rattle.walk.specs.declared.tally.Walked.the-variants.{Ends, Cut}

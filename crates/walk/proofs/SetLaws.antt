@@ -1,29 +1,27 @@
 -- Keys, and lists of records behind their count.
 use Prim.Native.Nat.{ℕ, _+_, _-_, _≤_, _<_}
 use mathlib.Core.Path.{_≡_, refl, sym, ap, _∙_}
-use mathlib.Core.Bool.{Bool, true, false}
+use mathlib.Core.Bool.{Bool}
 use mathlib.Core.List.{List, [], _∷_, _++_, append-assoc}
 use native.Mathlib.Omega.{arith}
 use borrow.Author.Tests.{leb-true, le-leb, lt-leb}
-use lib.Dec.{leb}
 use lib.ListN.{length, take, drop, length-append, length-drop}
 use lib.Seq.{drop-drop, length-take-le, take-append-seam, drop-append-seam}
 use Rattle.keys.specs.Limit.{keyLimit}
 use Rattle.machine.specs.Lists.{sum}
 use Rattle.machine.specs.State.{Bytes}
 use Rattle.machine.proofs.ListLaws.{length-sum}
-use Rattle.codec.specs.Codec.{Codec, item, cut}
-use Rattle.codec.specs.Formats.{number, raw, bind, only, via, run}
+use Rattle.codec.specs.Codec.{Codec, cut}
+use Rattle.codec.specs.Formats.{number, raw, bind, only, via}
 use Rattle.codec.specs.Places.{Stands}
 use Rattle.codec.proofs.NumberLaws.{length-number}
 use Rattle.codec.proofs.RecordLaws.{too-short, stands-length}
 use Rattle.layout.specs.Keys.{keyForm, listForm, setForm, below}
 use Rattle.layout.specs.Places.{Part}
 use Rattle.layout.specs.States.{highest}
-use Rattle.walk.specs.declared.tally.Tally.{Tally}
 use Rattle.walk.specs.declared.tally.Walked.{Walked}
 use Rattle.walk.specs.declared.tally.Walked.the-variants.{Ends, Cut}
-use Rattle.walk.specs.Counts.{Counted, aKey, aSet, runOf}
+use Rattle.walk.specs.Counts.{aKey, aSet, runOf}
 use Rattle.walk.specs.Walks.{Got, Missing, Walks, between}
 use Rattle.walk.proofs.GoingLaws.{Labelled}
 

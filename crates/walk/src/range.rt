@@ -17,7 +17,7 @@ const INCLUDED: u8 = 0x11;
 const EXCLUDED: u8 = 0x12;
 
 // The bound at a place: its kind, and where it ends.
-pub enum BoundAt {
+enum BoundAt {
     Found(Kind, usize),
     NoBound,
 }

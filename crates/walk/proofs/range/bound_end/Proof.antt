@@ -5,10 +5,6 @@ use mathlib.Core.Path.{refl}
 use borrow.Author.Needs.{needs}
 use Rattle.walk.proofs.range.bound_end.Statement.{statement}
 use Rattle.walk.proofs.range.bound_end.Tie as tie
-use Rattle.walk.proofs.range.bound_end.Reads as reads
-use Rattle.walk.proofs.range.bound_end.Lts as lts
-use Rattle.walk.proofs.range.bound_of.Reads as bound-of-reads
-use Rattle.walk.proofs.set.key_end.Reads as key-end-reads
 
 sub-if1 : tie.Need-sub-if1
 sub-if1 c = search needs

@@ -1,8 +1,6 @@
 use borrow.Author.Needs.{needs}
 use Rattle.walk.proofs.range.bound_of.Statement.{statement}
 use Rattle.walk.proofs.range.bound_of.Tie as tie
-use Rattle.walk.proofs.range.bound_of.Reads as reads
-use Rattle.walk.proofs.range.bound_of.Lts as lts
 
 enum-known-key : tie.Need-enum-known-key
 enum-known-key c = search needs

@@ -2,15 +2,10 @@ use Rattle.walk.proofs.RangeLaws.{no-start, no-end, judged, range-empty
 use Rattle.walk.specs.Walks.{BoundEnds}
 use denote.Ref.{now}
 use native.Mathlib.Omega.{arith}
-use mathlib.Core.Path.{_≡_, refl, sym, _∙_}
+use mathlib.Core.Path.{sym, _∙_}
 use borrow.Author.Needs.{needs}
 use Rattle.walk.proofs.range.range_end.Statement.{statement}
 use Rattle.walk.proofs.range.range_end.Tie as tie
-use Rattle.walk.proofs.range.range_end.Reads as reads
-use Rattle.walk.proofs.range.range_end.Lts as lts
-use Rattle.bounds.proofs.comparable_range.ComparableRange.new.Reads as new-reads
-use Rattle.bounds.proofs.comparable_range.ComparableRange.non_empty.Reads as non-empty-reads
-use Rattle.walk.proofs.range.bound_end.Reads as bound-end-reads
 
 -- the bounds that were read
 first : (c : tie.After-start) → BoundEnds (now (c .before .before .before .before .args .room)) (c .before .before .before .before .args .at) (c .start .given .0 .0) (c .start .given .0 .1 .0)

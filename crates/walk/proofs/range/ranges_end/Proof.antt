@@ -2,10 +2,6 @@ use Rattle.walk.proofs.RangeLaws.{ranges-short, ranges-ends}
 use borrow.Author.Needs.{needs}
 use Rattle.walk.proofs.range.ranges_end.Statement.{statement}
 use Rattle.walk.proofs.range.ranges_end.Tie as tie
-use Rattle.walk.proofs.range.ranges_end.Reads as reads
-use Rattle.walk.proofs.range.ranges_end.Lts as lts
-use Rattle.codec.proofs.numbers.read_two.Reads as read-two-reads
-use Rattle.walk.proofs.range.run_end.Reads as run-end-reads
 
 sub-if1 : tie.Need-sub-if1
 sub-if1 c = search needs

@@ -7,10 +7,6 @@ use borrow.Author.Needs.{needs}
 use native.Mathlib.Omega.{arith}
 use Rattle.walk.proofs.range.run_end.Statement.{statement}
 use Rattle.walk.proofs.range.run_end.Tie as tie
-use Rattle.walk.proofs.range.run_end.Reads as reads
-use Rattle.walk.proofs.range.run_end.Lts as lts
-use Rattle.walk.proofs.range.range_end.Reads as range-end-reads
-use Rattle.walk.proofs.tally.joined.Reads as joined-reads
 
 abbrev Inv-loop : tie.InvT-loop
 Inv-loop room at n t₀ left₀ t left = Loose aRange room at n t left

@@ -2,10 +2,6 @@ use Rattle.walk.proofs.EntryLaws.{entry-short, entry-cut, entry-got}
 use borrow.Author.Needs.{needs}
 use Rattle.walk.proofs.record.entry_end.Statement.{statement}
 use Rattle.walk.proofs.record.entry_end.Tie as tie
-use Rattle.walk.proofs.record.entry_end.Reads as reads
-use Rattle.walk.proofs.record.entry_end.Lts as lts
-use Rattle.codec.proofs.numbers.read_eight.Reads as read-eight-reads
-use Rattle.walk.proofs.set.set_end.Reads as set-end-reads
 
 sub-if1 : tie.Need-sub-if1
 sub-if1 c = search needs

@@ -8,12 +8,6 @@ use Prim.Native.Nat.{_+_}
 use borrow.Author.Needs.{needs}
 use Rattle.walk.proofs.record.txn_end.Statement.{statement}
 use Rattle.walk.proofs.record.txn_end.Tie as tie
-use Rattle.walk.proofs.record.txn_end.Reads as reads
-use Rattle.walk.proofs.record.txn_end.Lts as lts
-use Rattle.codec.proofs.numbers.read_eight.Reads as read-eight-reads
-use Rattle.walk.proofs.range.ranges_end.Reads as ranges-end-reads
-use Rattle.walk.proofs.set.set_end.Reads as set-end-reads
-use Rattle.walk.proofs.tally.joined.Reads as joined-reads
 
 -- the sets and the ranges that were read
 written : (c : tie.After-w) → Got aSet (now (c .before .before .before .before .before .before .args .room)) (c .before .before .before .before .before .before .args .at + 24) (c .w .given .0 .0)

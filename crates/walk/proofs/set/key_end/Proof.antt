@@ -3,9 +3,6 @@ use native.Mathlib.Omega.{arith}
 use borrow.Author.Needs.{needs}
 use Rattle.walk.proofs.set.key_end.Statement.{statement}
 use Rattle.walk.proofs.set.key_end.Tie as tie
-use Rattle.walk.proofs.set.key_end.Reads as reads
-use Rattle.walk.proofs.set.key_end.Lts as lts
-use Rattle.codec.proofs.numbers.read_two.Reads as read-two-reads
 
 sub-if1 : tie.Need-sub-if1
 sub-if1 c = search needs

@@ -4,9 +4,6 @@ use native.Mathlib.Omega.{arith}
 use borrow.Author.Needs.{needs}
 use Rattle.walk.proofs.set.key_follows.Statement.{statement}
 use Rattle.walk.proofs.set.key_follows.Tie as tie
-use Rattle.walk.proofs.set.key_follows.Reads as reads
-use Rattle.walk.proofs.set.key_follows.Lts as lts
-use Rattle.keys.proofs.compare.Reads as compare-reads
 
 returns : tie.Need-returns
 returns c = rw (eq-eqb _ _ (c .if1 .taken))

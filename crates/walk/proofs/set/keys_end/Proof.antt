@@ -7,14 +7,9 @@ use denote.Ref.{now}
 use borrow.Author.Tests.{not-true, not-false}
 use borrow.Author.Needs.{needs}
 use native.Mathlib.Omega.{arith}
-use mathlib.Core.Path.{_≡_, sym, _∙_}
+use mathlib.Core.Path.{sym, _∙_}
 use Rattle.walk.proofs.set.keys_end.Statement.{statement}
 use Rattle.walk.proofs.set.keys_end.Tie as tie
-use Rattle.walk.proofs.set.keys_end.Reads as reads
-use Rattle.walk.proofs.set.keys_end.Lts as lts
-use Rattle.walk.proofs.set.key_end.Reads as key-end-reads
-use Rattle.walk.proofs.set.key_follows.Reads as key-follows-reads
-use Rattle.walk.proofs.tally.joined.Reads as joined-reads
 
 abbrev Inv-loop : tie.InvT-loop
 Inv-loop room at n t₀ p₀ left₀ t p left = Ordered (aKey keyLimit) itself keyAt 2 room at n t p left

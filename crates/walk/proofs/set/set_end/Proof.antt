@@ -2,10 +2,6 @@ use Rattle.walk.proofs.SetLaws.{set-short, set-ends}
 use borrow.Author.Needs.{needs}
 use Rattle.walk.proofs.set.set_end.Statement.{statement}
 use Rattle.walk.proofs.set.set_end.Tie as tie
-use Rattle.walk.proofs.set.set_end.Reads as reads
-use Rattle.walk.proofs.set.set_end.Lts as lts
-use Rattle.codec.proofs.numbers.read_two.Reads as read-two-reads
-use Rattle.walk.proofs.set.keys_end.Reads as keys-end-reads
 
 sub-if1 : tie.Need-sub-if1
 sub-if1 c = search needs

@@ -1,9 +1,6 @@
 use borrow.Author.Needs.{needs}
 use Rattle.walk.proofs.tally.joined.Statement.{statement}
 use Rattle.walk.proofs.tally.joined.Tie as tie
-use Rattle.walk.proofs.tally.joined.Reads as reads
-use Rattle.walk.proofs.tally.joined.Lts as lts
-use Rattle.walk.proofs.tally.larger.Reads as larger-reads
 
 add-marks : tie.Need-add-marks
 add-marks c = search needs

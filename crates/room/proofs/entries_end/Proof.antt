@@ -1,0 +1,66 @@
+use Rattle.walk.proofs.GoingLaws.{Loose, loose-start, loose-next, loose-cut, loose-end, going-join}
+use Rattle.walk.specs.Walks.{Got}
+use Rattle.walk.specs.Counts.{anEntry}
+use Rattle.layout.specs.Keys.{anyOrder}
+use denote.Ref.{now}
+use borrow.Author.Needs.{needs}
+use native.Mathlib.Omega.{arith}
+use Rattle.room.proofs.entries_end.Statement.{statement}
+use Rattle.room.proofs.entries_end.Tie as tie
+
+abbrev Inv-loop : tie.InvT-loop
+Inv-loop room at n t₀ left₀ t left = Loose anEntry room at n t left
+
+abbrev μ-loop : tie.MeasureT-loop
+μ-loop room at n t₀ left₀ t left = left
+
+-- the record that was read in this turn
+seen : (c : tie.After-u Inv-loop μ-loop) → Got anEntry (now (c .before .before .before .before .before .before .args .room)) (c .before .before .before .before .loop .t .end) (c .u .given .0 .0)
+seen c = rw (c .u .given .1) at (c .before .before .entry-end .ensures)
+
+loop-holds : tie.Need-loop-holds Inv-loop μ-loop
+loop-holds c = loose-start anEntry _ _ _ (omega arith)
+
+entry-end-requires : tie.Need-entry-end-requires Inv-loop μ-loop
+entry-end-requires c κs = c .before .loop .inv .going .inside
+
+enum-known-u : tie.Need-enum-known-u Inv-loop μ-loop
+enum-known-u c = search needs
+
+joined-requires : tie.Need-joined-requires Inv-loop μ-loop
+joined-requires c κs = going-join anEntry anyOrder (c .before .before .before .before .before .loop .inv .going) (seen (c .before))
+
+sub-left : tie.Need-sub-left Inv-loop μ-loop
+sub-left c = search needs
+
+loop-less : tie.Need-loop-less Inv-loop μ-loop
+loop-less c = search needs
+
+loop-again : tie.Need-loop-again Inv-loop μ-loop
+loop-again c = loose-next anEntry (c .before .before .before .before .before .before .loop .inv) (omega arith) (seen (c .before .before)) _ (c .joined .ensures)
+
+enum-told : tie.Need-enum-told Inv-loop μ-loop
+enum-told c = search needs
+
+returns : tie.Need-returns Inv-loop μ-loop
+returns c = loose-cut anEntry (c .before .before .before .before .loop .inv) (omega arith) (rw (c .enum-told .given .1) at (c .before .before .entry-end .ensures))
+
+returns-2 : tie.Need-returns-2 Inv-loop μ-loop
+returns-2 c = loose-end anEntry (c .before .loop .inv) (omega arith)
+
+pub entries-end-spec : {M : Type 1} → statement M
+entries-end-spec =
+    tie.close
+    (tie.spec
+    Inv-loop
+    μ-loop
+    loop-holds
+    entry-end-requires
+    enum-known-u
+    joined-requires
+    sub-left
+    loop-less
+    loop-again
+    enum-told
+    returns
+    returns-2)

@@ -1,0 +1,197 @@
+// A lent room: the validating walk over it, once for each call.
+ghost use mathlib.Core.Path.{_≡_};
+ghost use Prim.Native.Nat.{_+_, _≤_};
+ghost use lib.ListN.{length};
+ghost use Rattle.walk.specs.Walks.{Walks, Apart};
+ghost use Rattle.walk.specs.Counts.{anEntry, aTxn, runOf};
+ghost use Rattle.layout.specs.Keys.{anyOrder};
+ghost use Rattle.layout.specs.Records.{belowId};
+ghost use Rattle.room.specs.Views.{HeadAt, idFollows, soundly, Opening};
+use crate::ceilings::ACTIVE_LIMIT;
+use crate::ceilings::BYTE_LIMIT;
+use crate::ceilings::ENTRY_LIMIT;
+use crate::ceilings::MARK_LIMIT;
+use crate::ceilings::SIZE;
+use walk::tally::Tally;
+use walk::tally::Walked;
+
+pub mod ceilings;
+
+// The letters "Stranvk1".
+const STAMP: u64 = 6013557165237103409;
+
+// A head takes this many bytes.
+const HEAD: usize = 20;
+
+// The head of a room: the last number, how many entries, how many active.
+struct Top {
+    last: u64,
+    entries: usize,
+    active: usize,
+}
+
+enum Headed {
+    Is(Top),
+    No,
+}
+
+// Where the parts of a state's record stand, and the machine's totals: the active ones begin at `middle`, the record ends at
+// `used`.
+pub struct View {
+    pub last: u64,
+    pub entries: usize,
+    pub active: usize,
+    pub middle: usize,
+    pub used: usize,
+    pub marks: usize,
+    pub bytes: usize,
+}
+
+pub enum Opened {
+    Of(View),
+    Bad,
+}
+
+fn head(room: &[u8]) -> Headed
+    ensures { λ r. ⌜ HeadAt (now (room .entry)) r ⌝ }
+{
+    if room.len() < HEAD {
+        return Headed::No;
+    }
+    let stamp = codec::numbers::read_eight(room, 0);
+    if stamp != STAMP {
+        return Headed::No;
+    }
+    let last = codec::numbers::read_eight(room, 8);
+    let entries = codec::numbers::read_two(room, 16);
+    let active = codec::numbers::read_two(room, 18);
+    Headed::Is(Top {
+        last,
+        entries,
+        active,
+    })
+}
+
+// Where n entries end.
+fn entries_end(room: &[u8], at: usize, n: usize) -> Walked
+    requires { ⌜ at ≤ length (now room) ⌝ }
+    ensures { λ r. ⌜ Walks (runOf anEntry anyOrder n) (now (room .entry)) at r ⌝ }
+{
+    let mut t = Tally {
+        end: at,
+        marks: 0,
+        bytes: 0,
+        high: 0,
+    };
+    let mut left = n;
+    while 0 < left {
+        match walk::record::entry_end(room, t.end) {
+            Walked::Ends(u) => {
+                t = walk::tally::joined(t, u);
+                left -= 1;
+            }
+            Walked::Cut => return Walked::Cut,
+        }
+    }
+    Walked::Ends(t)
+}
+
+// Whether the id of the transaction at e comes after that of the one before it, at p; none is before it if p is e.
+fn id_follows(room: &[u8], p: usize, e: usize) -> bool
+    requires { ⌜ Apart 16 p e × (e + 16 ≤ length (now room)) ⌝ }
+    ensures { λ r. ⌜ r ≡ idFollows (now (room .entry)) p e ⌝ }
+{
+    if p == e {
+        return true;
+    }
+    let a = p + 16;
+    let b = e + 16;
+    keys::compare(&room[p..a], &room[e..b]) < 0
+}
+
+// Where n transactions end, each id above the one before.
+fn active_end(room: &[u8], at: usize, n: usize) -> Walked
+    requires { ⌜ at ≤ length (now room) ⌝ }
+    ensures { λ r. ⌜ Walks (runOf aTxn belowId n) (now (room .entry)) at r ⌝ }
+{
+    let mut t = Tally {
+        end: at,
+        marks: 0,
+        bytes: 0,
+        high: 0,
+    };
+    let mut p = at;
+    let mut left = n;
+    while 0 < left {
+        match walk::record::txn_end(room, t.end) {
+            Walked::Ends(u) => {
+                if !id_follows(room, p, t.end) {
+                    return Walked::Cut;
+                }
+                p = t.end;
+                t = walk::tally::joined(t, u);
+                left -= 1;
+            }
+            Walked::Cut => return Walked::Cut,
+        }
+    }
+    Walked::Ends(t)
+}
+
+// Whether the ceilings are kept, no start or sequence is above the last number, and nobody active means no entries.
+fn sound(top: Top, t: Tally) -> bool
+    ensures { λ r. ⌜ r ≡ soundly top t ⌝ }
+{
+    if ACTIVE_LIMIT < top.active {
+        return false;
+    }
+    if ENTRY_LIMIT < top.entries {
+        return false;
+    }
+    if MARK_LIMIT < t.marks {
+        return false;
+    }
+    if BYTE_LIMIT < t.bytes {
+        return false;
+    }
+    if top.last < t.high {
+        return false;
+    }
+    if 0 < top.active {
+        return true;
+    }
+    top.entries == 0
+}
+
+// The state's record that a room holds, if it holds one.
+pub fn open(room: &[u8]) -> Opened
+    ensures { λ r. ⌜ Opening (now (room .entry)) r ⌝ }
+{
+    if room.len() < SIZE {
+        return Opened::Bad;
+    }
+    match head(room) {
+        Headed::No => Opened::Bad,
+        Headed::Is(top) => match entries_end(room, HEAD, top.entries) {
+            Walked::Cut => Opened::Bad,
+            Walked::Ends(t) => match active_end(room, t.end, top.active) {
+                Walked::Cut => Opened::Bad,
+                Walked::Ends(u) => {
+                    let all = walk::tally::joined(t, u);
+                    if sound(top, all) {
+                        return Opened::Of(View {
+                            last: top.last,
+                            entries: top.entries,
+                            active: top.active,
+                            middle: t.end,
+                            used: all.end,
+                            marks: all.marks,
+                            bytes: all.bytes,
+                        });
+                    }
+                    Opened::Bad
+                }
+            },
+        },
+    }
+}
