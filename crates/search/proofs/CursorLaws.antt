@@ -1,0 +1,152 @@
+-- Cursors: the record that comes first, and what is left behind it.
+use Prim.Native.Nat.{ℕ, zero, suc, _+_, _-_, _≤_, _<_}
+use mathlib.Core.Path.{_≡_, refl, sym, ap, _∙_}
+use mathlib.Core.Bool.{Bool}
+use mathlib.Core.List.{List, [], _∷_, _++_, map}
+use native.Mathlib.Omega.{arith}
+use lib.ListN.{length, length-append}
+use Rattle.bounds.specs.Ranges.{Range}
+use Rattle.machine.specs.State.{Bytes, Txn, base}
+use Rattle.codec.specs.Codec.{Codec}
+use Rattle.layout.specs.Keys.{keyForm, setForm, rangeForm, rangesForm, below, anyOrder}
+use Rattle.layout.specs.Records.{txnForm}
+use Rattle.layout.specs.Places.{Part, Row, Here, Ends}
+use Rattle.layout.proofs.PartLaws.{number-read-is}
+use Rattle.layout.proofs.OpenLaws.{OpenList, open-set, open-ranges, open-txn}
+use Rattle.search.specs.declared.cursor.Cursor.{Cursor}
+use Rattle.search.specs.declared.marks.Marks.{Marks}
+use Rattle.search.specs.Marks.{Mark, key, range, meets, listed, marksOf, SameKey, InRange}
+use Rattle.search.specs.Cursors.{past, CountAt, Before, marksLeft, Left, Tracked}
+
+module _ {A : Type 0} (C : Codec A) (s : List ℕ) (c : Cursor) where
+  pub before-next : (x : A) (xs : List A) (d : Cursor) (e : ℕ) → Before C s c (x ∷ xs) → Ends C s (c .at) e → d ≡ past c e → Before C s d xs
+  before-next x xs d e b n q =
+      let here : b .row .end ≡ e = sym (n .is x (b .row .end) (b .row .first)) in
+      let row : Row C s e xs (b .end) = rw here at (b .row .rest) in
+      rw q (record { end = b .end; row = row; count = omega (arith, b .count) })
+
+  -- the records of a list stand behind its count
+  pub before-list : (before : A → A → Bool) (at : ℕ) (xs : List A) (e : ℕ) → OpenList C before s at xs e → CountAt s at c → Before C s c xs
+  before-list before at xs e o n = record { end = e; row = rw (n .begins) (o .row); count = sym (number-read-is 2 (o .count-at) (n .counts)) }
+
+-- the first mark that is left is the first record of one of the three rows; the marks behind it are left past that record
+pub record Turn {A : Type 0} (C : Codec A) (mark : A → Mark) (s : List ℕ) (c : Cursor) (m : Mark) (more : Cursor → Type 0) : Type 0 where
+  pub val : A
+  pub end : ℕ
+  pub part : Part C s (c .at) val end
+  pub is : m ≡ mark val
+  pub some : 0 < c .left
+  pub next : (d : Cursor) (e : ℕ) → Ends C s (c .at) e → d ≡ past c e → more d
+
+pub turn-here : {A : Type 0} {C : Codec A} {mark : A → Mark} {s : List ℕ} {c : Cursor} {m : Mark} {more : Cursor → Type 0} → Turn C mark s c m more → Here C s (c .at)
+turn-here t = record { val = t .val; end = t .end; part = t .part }
+
+pub key-met : {s : List ℕ} {c : Cursor} {m : Mark} {more : Cursor → Type 0} (k : Bytes) (r : Bool) → Turn (keyForm (base .key)) key s c m more → SameKey s (c .at) k r → r ≡ meets k m
+key-met k r t h = h .is (t .val) (t .end) (t .part) ∙ ap (meets k) (sym (t .is))
+
+pub range-met : {s : List ℕ} {c : Cursor} {m : Mark} {more : Cursor → Type 0} (k : Bytes) (r : Bool) → Turn (rangeForm (base .key)) range s c m more → InRange s (c .at) k r → r ≡ meets k m
+range-met k r t h = h .is (t .val) (t .end) (t .part) ∙ ap (meets k) (sym (t .is))
+
+module _ (s : List ℕ) (c : Marks) (m : Mark) (ms : List Mark) where
+  pub write-turn : Left s c (m ∷ ms) → 0 < c .writes .left → Turn (keyForm (base .key)) key s (c .writes) m (λ d. Left s (record { writes = d; reads = c .reads; ranges = c .ranges }) ms)
+  write-turn l h = go (l .writes) (l .writes-left) (l .all)
+    where
+      go : (ws : List Bytes) → Before (keyForm (base .key)) s (c .writes) ws → m ∷ ms ≡ listed ws (l .reads) (l .ranges)
+          → Turn (keyForm (base .key)) key s (c .writes) m (λ d. Left s (record { writes = d; reads = c .reads; ranges = c .ranges }) ms)
+      go [] b e = absurd (omega (arith, b .count, h))
+      go (w ∷ ws) b e =
+          record {
+            val = w;
+            end = b .row .end;
+            part = b .row .first;
+            is = cc;
+            some = h;
+            next = λ d f n q. record { writes = ws; reads = l .reads; ranges = l .ranges; writes-left = before-next (keyForm (base .key)) s (c .writes) w ws d f b n q; reads-left = l .reads-left; ranges-left = l .ranges-left; all = cc };
+          }
+
+  pub read-turn : Left s c (m ∷ ms) → c .writes .left ≤ 0 → 0 < c .reads .left
+      → Turn (keyForm (base .key)) key s (c .reads) m (λ d. Left s (record { writes = c .writes; reads = d; ranges = c .ranges }) ms)
+  read-turn l z h = go (l .writes) (l .reads) (l .writes-left) (l .reads-left) (l .all)
+    where
+      go : (ws rs : List Bytes) → Before (keyForm (base .key)) s (c .writes) ws → Before (keyForm (base .key)) s (c .reads) rs → m ∷ ms ≡ listed ws rs (l .ranges)
+          → Turn (keyForm (base .key)) key s (c .reads) m (λ d. Left s (record { writes = c .writes; reads = d; ranges = c .ranges }) ms)
+      go (w ∷ ws) rs a b e = absurd (omega (arith, a .count, z))
+      go [] [] a b e = absurd (omega (arith, b .count, h))
+      go [] (r ∷ rs) a b e =
+          record {
+            val = r;
+            end = b .row .end;
+            part = b .row .first;
+            is = cc;
+            some = h;
+            next = λ d f n q. record { writes = []; reads = rs; ranges = l .ranges; writes-left = a; reads-left = before-next (keyForm (base .key)) s (c .reads) r rs d f b n q; ranges-left = l .ranges-left; all = cc };
+          }
+
+  pub range-turn : Left s c (m ∷ ms) → c .writes .left ≤ 0 → c .reads .left ≤ 0
+      → Turn (rangeForm (base .key)) range s (c .ranges) m (λ d. Left s (record { writes = c .writes; reads = c .reads; ranges = d }) ms)
+  range-turn l y z = go (l .writes) (l .reads) (l .ranges) (l .writes-left) (l .reads-left) (l .ranges-left) (l .all)
+    where
+      go : (ws rs : List Bytes) (gs : List Range) → Before (keyForm (base .key)) s (c .writes) ws → Before (keyForm (base .key)) s (c .reads) rs → Before (rangeForm (base .key)) s (c .ranges) gs
+          → m ∷ ms ≡ listed ws rs gs → Turn (rangeForm (base .key)) range s (c .ranges) m (λ d. Left s (record { writes = c .writes; reads = c .reads; ranges = d }) ms)
+      go (w ∷ ws) rs gs a b g e = absurd (omega (arith, a .count, y))
+      go [] (r ∷ rs) gs a b g e = absurd (omega (arith, b .count, z))
+      go [] [] [] a b g e = absurd (let x : _≡_ {A = ℕ} 0 1 = cc in omega arith)
+      go [] [] (x ∷ gs) a b g e =
+          record {
+            val = x;
+            end = g .row .end;
+            part = g .row .first;
+            is = cc;
+            some = omega (arith, g .count);
+            next = λ d f n q. record { writes = []; reads = []; ranges = gs; writes-left = a; reads-left = b; ranges-left = before-next (rangeForm (base .key)) s (c .ranges) x gs d f g n q; all = cc };
+          }
+
+-- as many marks are left as the cursor says
+length-map : {A : Type 0} (f : A → Mark) (xs : List A) → length (map f xs) ≡ length xs
+length-map f [] = refl
+length-map f (x ∷ xs) = ap suc (length-map f xs)
+
+pub left-count : (s : List ℕ) (c : Marks) (ms : List Mark) → Left s c ms → length ms ≡ marksLeft c
+left-count s c ms l =
+    let a : length ms ≡ length (map key (l .writes)) + (length (map key (l .reads)) + length (map range (l .ranges))) =
+    ap length (l .all) ∙ length-append (map key (l .writes)) (map key (l .reads) ++ map range (l .ranges)) ∙ rw (length-append (map key (l .reads)) (map range (l .ranges))) in
+    omega (arith, l .writes-left .count, l .reads-left .count, l .ranges-left .count, length-map key (l .writes), length-map key (l .reads), length-map range (l .ranges))
+
+-- the marks of a transaction where it stands
+module _ (s : List ℕ) (txn : ℕ) where
+  pub writes-here : Here (txnForm (base .key)) s txn → Here (setForm (base .key)) s (txn + 24)
+  writes-here h = let o = open-txn (base .key) (h .part) in record { val = h .val .writes; end = o .writes-end; part = o .writes }
+
+  pub reads-here : (a : ℕ) → Here (txnForm (base .key)) s txn → Ends (setForm (base .key)) s (txn + 24) a → Here (setForm (base .key)) s a
+  reads-here a h n = let o = open-txn (base .key) (h .part) in record { val = h .val .reads; end = o .reads-end; part = rw (n .is _ _ (o .writes)) (o .reads) }
+
+  pub ranges-here : (a b : ℕ) → Here (txnForm (base .key)) s txn → Ends (setForm (base .key)) s (txn + 24) a → Ends (setForm (base .key)) s a b → Here (rangesForm (base .key)) s b
+  ranges-here a b h n k =
+      let o = open-txn (base .key) (h .part) in
+      let r : Part (setForm (base .key)) s a (h .val .reads) (o .reads-end) = rw (n .is _ _ (o .writes)) (o .reads) in
+      record { val = h .val .ranges; end = h .end; part = rw (k .is _ _ r) (o .ranges) }
+
+  pub tracked : (a b : ℕ) (w r g : Cursor) → Ends (setForm (base .key)) s (txn + 24) a → Ends (setForm (base .key)) s a b → CountAt s (txn + 24) w → CountAt s a r → CountAt s b g
+      → Tracked s txn (record { writes = w; reads = r; ranges = g })
+  tracked a b w r g n k x y z = record { is = left }
+    where
+      left : (t : Txn) (e : ℕ) → Part (txnForm (base .key)) s txn t e → Left s (record { writes = w; reads = r; ranges = g }) (marksOf t)
+      left t e p =
+          let o = open-txn (base .key) p in
+          let reads : Part (setForm (base .key)) s a (t .reads) (o .reads-end) = rw (n .is _ _ (o .writes)) (o .reads) in
+          let ranges : Part (rangesForm (base .key)) s b (t .ranges) e = rw (k .is _ _ reads) (o .ranges) in
+          record {
+            writes = t .writes;
+            reads = t .reads;
+            ranges = t .ranges;
+            writes-left = before-list (keyForm (base .key)) s w below _ _ _ (open-set (base .key) (o .writes)) x;
+            reads-left = before-list (keyForm (base .key)) s r below _ _ _ (open-set (base .key) reads) y;
+            ranges-left = before-list (rangeForm (base .key)) s g anyOrder _ _ _ (open-ranges (base .key) ranges) z;
+            all = refl;
+          }
+
+pub set-room : {s : List ℕ} {at : ℕ} → Here (setForm (base .key)) s at → at + 2 ≤ length s
+set-room h = open-set (base .key) (h .part) .count-at .inside
+
+pub ranges-room : {s : List ℕ} {at : ℕ} → Here (rangesForm (base .key)) s at → at + 2 ≤ length s
+ranges-room h = open-ranges (base .key) (h .part) .count-at .inside

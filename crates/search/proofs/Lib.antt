@@ -1,0 +1,5 @@
+pub mod MarkLaws
+pub mod CursorLaws
+pub mod TrackLaws
+pub mod WalkLaws
+pub mod SearchLaws

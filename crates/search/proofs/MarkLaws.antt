@@ -1,0 +1,115 @@
+-- Keys and bounds where they stand: what the bytes there say of them.
+use Prim.Native.Nat.{ℕ, _+_, _-_, _≤_, _<_}
+use mathlib.Core.Path.{_≡_, refl, sym, ap, ap₂, _∙_}
+use mathlib.Core.Bool.{Bool, cond}
+use mathlib.Core.List.{List}
+use native.Mathlib.Omega.{arith}
+use lib.Dec.{eqb}
+use lib.ListN.{length, getD, take, drop}
+use lib.Seq.{slice}
+use Rattle.bounds.specs.Bounds.{Bound, unbounded, included, excluded, bound}
+use Rattle.bounds.specs.Ranges.{Range, range, rangeOf, holds}
+use Rattle.bounds.specs.declared.comparable_range.ComparableRange.{ComparableRange}
+use Rattle.bounds.specs.declared.kind.Kind.{Kind}
+use Rattle.bounds.specs.declared.kind.Kind.the-variants.{Unbounded, Included, Excluded}
+use Rattle.ranges.specs.Making.{keyOf, kindOf}
+use Rattle.fields.specs.Forms.{boundTag}
+use Rattle.machine.specs.State.{Bytes, base}
+use Rattle.machine.specs.Sets.{equal}
+use Rattle.codec.proofs.NumberLaws.{stands-number}
+use Rattle.moves.proofs.SpliceLaws.{drop-take}
+use Rattle.layout.specs.Keys.{keyForm, boundForm, rangeForm}
+use Rattle.layout.specs.Places.{Part, Here, Ends}
+use Rattle.layout.proofs.PartLaws.{number-read-is}
+use Rattle.layout.proofs.OpenLaws.{open-key, open-bound, open-range}
+use Rattle.search.specs.Marks.{KindAt, SameKey, InRange}
+
+module _ (s : List ℕ) (at : ℕ) where
+  -- a key, as the part of the room that is lent
+  pub key-ends : (r : ℕ) → Here (keyForm (base .key)) s at → Ends (keyForm (base .key)) s at r → (at + 2 ≤ r) × (r ≤ length s)
+  key-ends r h n =
+      let k = open-key (base .key) (h .part) in
+      let e = n .is (h .val) (h .end) (h .part) in
+      (omega (arith, k .ends), omega (arith, k .inside))
+
+  pub key-room : Here (keyForm (base .key)) s at → at + 2 ≤ length s
+  key-room h = open-key (base .key) (h .part) .length-at .inside
+
+  pub key-part : (r : ℕ) (m : Bytes) (e : ℕ) → Ends (keyForm (base .key)) s at r → Part (keyForm (base .key)) s at m e → take (r - (at + 2)) (drop (at + 2) s) ≡ m
+  key-part r m e n p = sym (drop-take (at + 2) r s) ∙ rw (n .is m e p) (open-key (base .key) p .bytes)
+
+  pub same-key : (r : ℕ) (k : Bytes) (b : Bool) → Ends (keyForm (base .key)) s at r → b ≡ equal k (take (r - (at + 2)) (drop (at + 2) s)) → SameKey s at k b
+  same-key r k b n h = record { is = λ m e p. h ∙ ap (equal k) (key-part r m e n p) }
+
+  -- a bound
+  pub bound-ends : (r : ℕ) → Here (boundForm (base .key)) s at → Ends (boundForm (base .key)) s at r → (at + 3 ≤ r) × (r ≤ length s)
+  bound-ends r h n =
+      let k = open-key _ (open-bound (base .key) (h .part) .key) in
+      let e = n .is (h .val) (h .end) (h .part) in
+      (omega (arith, k .ends), omega (arith, k .inside))
+
+  pub bound-room : Here (boundForm (base .key)) s at → at < length s
+  bound-room h =
+      let k = open-key _ (open-bound (base .key) (h .part) .key) in
+      omega (arith, k .ends, k .inside)
+
+  bound-key : (r : ℕ) (b : Bound) (e : ℕ) → Ends (boundForm (base .key)) s at r → Part (boundForm (base .key)) s at b e → take (r - (at + 3)) (drop (at + 3) s) ≡ keyOf b
+  bound-key r b e n p =
+      let from : at + 3 ≡ at + 1 + 2 = omega arith in
+      sym (drop-take (at + 3) r s) ∙ rw (n .is b e p, from) (open-key _ (open-bound (base .key) p .key) .bytes)
+
+-- the kind of a tag
+abbrev pub tagKind : ℕ → Kind
+tagKind t = cond (eqb t 0x10) Unbounded (cond (eqb t 0x11) Included Excluded)
+
+tag-kind : (k : Kind) → tagKind (boundTag k) ≡ k
+tag-kind Unbounded = refl
+tag-kind Included = refl
+tag-kind Excluded = refl
+
+pub kind-is : (s : List ℕ) (at : ℕ) (k : Kind) → ((i : ℕ) → getD s i 0 < 256) → k ≡ tagKind (getD s at 0) → KindAt s at k
+kind-is s at k small t = record { is = tagged }
+  where
+    tagged : (b : Bound) (e : ℕ) → Part (boundForm (base .key)) s at b e → k ≡ kindOf b
+    tagged b e p =
+        let o = open-bound (base .key) p in
+        let tag : getD s at 0 ≡ boundTag (kindOf b) = number-read-is 1 (o .tag-at) (stands-number 1 s at _ (o .tag-at .inside) small refl) in
+        t ∙ ap tagKind tag ∙ tag-kind (kindOf b)
+
+-- the two bounds of a range
+module _ (s : List ℕ) (at : ℕ) where
+  pub start-here : Here (rangeForm (base .key)) s at → Here (boundForm (base .key)) s at
+  start-here h = let o = open-range (base .key) (h .part) in record { val = h .val .start; end = o .middle; part = o .start }
+
+  pub end-here : (m : ℕ) → Here (rangeForm (base .key)) s at → Ends (boundForm (base .key)) s at m → Here (boundForm (base .key)) s m
+  end-here m h n = let o = open-range (base .key) (h .part) in record { val = h .val .end; end = h .end; part = rw (n .is _ _ (o .start)) (o .end) }
+
+  -- both keys lie in the room, behind their tags and lengths
+  pub record Spans (m r : ℕ) : Type 0 where
+    pub start : at + 3 ≤ m
+    pub end : m + 3 ≤ r
+    pub inside : r ≤ length s
+
+  pub spans : (m r : ℕ) → Here (rangeForm (base .key)) s at → Ends (boundForm (base .key)) s at m → Ends (boundForm (base .key)) s m r → Spans m r
+  spans m r h one two =
+      let a = bound-ends s at m (start-here h) one in
+      let b = bound-ends s m r (end-here m h one) two in
+      record { start = a .0; end = b .0; inside = b .1 }
+
+  bound-back : (b : Bound) → bound (kindOf b) (keyOf b) ≡ b
+  bound-back unbounded = refl
+  bound-back (included k) = refl
+  bound-back (excluded k) = refl
+
+  pub in-range : (m r : ℕ) (k : Bytes) (c : ComparableRange) (ks ke : Kind) (b : Bool) → Ends (boundForm (base .key)) s at m → Ends (boundForm (base .key)) s m r
+      → KindAt s at ks → KindAt s m ke → (c .start ≡ ks) × (c .end ≡ ke)
+      → b ≡ holds (rangeOf c (take (m - (at + 3)) (drop (at + 3) s)) (take (r - (m + 3)) (drop (m + 3) s))) k → InRange s at k b
+  in-range m r k c ks ke b one two a z f h = record { is = held }
+    where
+      held : (g : Range) (e : ℕ) → Part (rangeForm (base .key)) s at g e → b ≡ holds g k
+      held g e p =
+          let o = open-range (base .key) p in
+          let end : Part (boundForm (base .key)) s m (g .end) e = rw (one .is _ _ (o .start)) (o .end) in
+          let x = ap₂ bound (f .0 ∙ a .is _ _ (o .start)) (bound-key s at m (g .start) (o .middle) one (o .start)) ∙ bound-back (g .start) in
+          let y = ap₂ bound (f .1 ∙ z .is _ _ end) (bound-key s m r (g .end) e two end) ∙ bound-back (g .end) in
+          h ∙ ap₂ (λ (u v : Bound). holds (range u v) k) x y

@@ -1,0 +1,41 @@
+use borrow.Author.Needs.{needs}
+use Rattle.search.proofs.CursorLaws.{writes-here, reads-here, ranges-here, set-room, ranges-room, tracked}
+use Rattle.search.proofs.marks.Marks.of.Statement.{statement}
+use Rattle.search.proofs.marks.Marks.of.Tie as tie
+use Rattle.search.proofs.marks.Marks.of.Reads as reads
+use Rattle.search.proofs.marks.Marks.of.Lts as lts
+use Rattle.places.proofs.skips.set_past.Reads as set-past-reads
+use Rattle.search.proofs.cursor.Cursor.of_list.Reads as of-list-reads
+
+add-at : tie.Need-add-at
+add-at c = search needs
+
+set-past-requires : tie.Need-set-past-requires
+set-past-requires c κs = writes-here _ _ (c .before .pre)
+
+set-past-requires-2 : tie.Need-set-past-requires-2
+set-past-requires-2 c κs = reads-here _ _ _ (c .before .before .pre) (c .set-past .ensures)
+
+of-list-requires : tie.Need-of-list-requires
+of-list-requires c κs = set-room (writes-here _ _ (c .before .before .before .pre))
+
+of-list-requires-2 : tie.Need-of-list-requires-2
+of-list-requires-2 c κs = set-room (reads-here _ _ _ (c .before .before .before .before .pre) (c .before .before .set-past .ensures))
+
+of-list-requires-3 : tie.Need-of-list-requires-3
+of-list-requires-3 c κs = ranges-room (ranges-here _ _ _ _ (c .before .before .before .before .before .pre) (c .before .before .before .set-past .ensures) (c .before .before .set-past2 .ensures))
+
+returns : tie.Need-returns
+returns c = tracked _ _ _ _ _ _ _ (c .before .before .before .before .set-past .ensures) (c .before .before .before .set-past2 .ensures) (c .before .before .of-list .ensures) (c .before .of-list2 .ensures) (c .of-list3 .ensures)
+
+pub of-spec : {M : Type 1} → statement M
+of-spec =
+    tie.close
+    (tie.spec
+    add-at
+    set-past-requires
+    set-past-requires-2
+    of-list-requires
+    of-list-requires-2
+    of-list-requires-3
+    returns)

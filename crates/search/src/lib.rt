@@ -1,0 +1,46 @@
+// Check's search through a room that is known to hold a state.
+ghost use Rattle.machine.specs.State.{base};
+ghost use Rattle.layout.specs.Records.{entryForm, txnForm};
+ghost use Rattle.layout.specs.Places.{Here, Rows};
+ghost use Rattle.search.specs.Cursors.{Verdict};
+use crate::cursor::Cursor;
+use crate::marks::Marks;
+use codec::numbers::read_eight;
+use places::skips::entry_past;
+use places::skips::key_past;
+
+pub mod cursor;
+pub mod mark;
+pub mod marks;
+
+// Whether one of the entries at a place is later than the start of the transaction at another and wrote a key that it tracks.
+pub fn conflicts(room: &[u8], at: usize, entries: usize, txn: usize) -> bool
+    requires { ⌜ Rows (entryForm (base .key)) (now room) at entries ⌝ }
+    requires { ⌜ Here (txnForm (base .key)) (now room) txn ⌝ }
+    ensures { λ r. ⌜ Verdict (now (room .entry)) at entries txn r ⌝ }
+{
+    let start = read_eight(room, txn + 16);
+    let marks = Marks::of(room, txn);
+    let mut found = false;
+    let mut e = Cursor::new(at, entries);
+    'search: while 0 < e.left {
+        if start < read_eight(room, e.at) {
+            let mut k = Cursor::of_list(room, e.at + 8);
+            while 0 < k.left {
+                let from = k.at + 2;
+                let to = key_past(room, k.at);
+                let mut m = marks;
+                while !m.is_over() {
+                    if m.meets(room, &room[from..to]) {
+                        found = true;
+                        break 'search;
+                    }
+                    m = m.next(room);
+                }
+                k = k.past(to);
+            }
+        }
+        e = e.past(entry_past(room, e.at));
+    }
+    found
+}
