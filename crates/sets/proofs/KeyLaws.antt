@@ -1,0 +1,62 @@
+-- The record of one key: where it ends, and where it stands in a key list.
+use Prim.Native.Nat.{ℕ, _+_, _-_, _≤_, _<_}
+use mathlib.Core.Path.{_≡_, refl, sym, ap, _∙_}
+use mathlib.Core.List.{_++_}
+use native.Mathlib.Omega.{arith}
+use borrow.Author.Tests.{le-leb}
+use lib.ListN.{length, take, drop, getD, length-append}
+use lib.Seq.{slice, length-slice, take-append-add}
+use Rattle.fields.specs.Fields.{keyList}
+use Rattle.fields.specs.Forms.{ItemAt, sizeAt}
+use Rattle.machine.specs.State.{Bytes, base}
+use Rattle.codec.specs.Formats.{number, raw, bind, only, via}
+use Rattle.codec.specs.Places.{Stands}
+use Rattle.codec.proofs.NumberLaws.{stands-number, length-number}
+use Rattle.moves.proofs.SpliceLaws.{drop-take}
+use Rattle.layout.specs.Keys.{keyForm}
+use Rattle.layout.specs.Places.{Here, Ends}
+use Rattle.layout.proofs.PartLaws.{number-read-is}
+use Rattle.layout.proofs.OpenLaws.{OpenKey, open-key}
+use Rattle.sets.specs.Sets.{Key}
+
+-- a part of some bytes as it is lent
+abbrev pub part : Bytes → ℕ → ℕ → Bytes
+part s from to = take (to - from) (drop from s)
+
+module _ {s : Bytes} {at : ℕ} where
+  pub here-open : (h : Here Key s at) → OpenKey (base .key) s at (h .val) (h .end)
+  here-open h = open-key (base .key) (h .part)
+
+  module _ {n : ℕ} (q : Stands (number 2) s at n (at + 2)) where
+    pub key-ends : Ends Key s at (at + 2 + n)
+    key-ends = record { is = λ a e p. let o = open-key (base .key) p in omega (arith, o .ends, number-read-is 2 (o .length-at) q) }
+
+    pub key-inside : Here Key s at → at + 2 + n ≤ length s
+    key-inside h = let o = here-open h in omega (arith, o .ends, o .inside, number-read-is 2 (o .length-at) q)
+
+-- the two bytes behind a key field's tag and its payload are the record of the key
+pub key-record : (m : ℕ) {list : Bytes} {at from to : ℕ} → ItemAt keyList list at 0x4b from to (slice from to list) → ((i : ℕ) → getD list i 0 < 256)
+    → part list (from - 2) to ≡ keyForm m .write (part list from to)
+unfolding keyForm via bind only raw sizeAt
+key-record m {list} {at} {from} {to} i small =
+    let n : ℕ = sizeAt list at in
+    let e : at + 1 + 1 ≡ at + 2 = omega arith in
+    let f : from - 2 ≡ at + 1 = omega (arith, i .begins) in
+    let g : at + 1 + 2 ≡ from = omega (arith, i .begins) in
+    let q : Stands (number 2) list (at + 1) n (at + 1 + 2) = stands-number 2 list (at + 1) n (omega (arith, i .begins, i .ends, i .within)) small (rw e) in
+    let b : drop (at + 1) list ≡ number 2 .write n ++ drop from list = number 2 .read-is (drop (at + 1) list) n (drop (at + 1 + 2) list) (q .reads) .0 ∙ rw g in
+    let l : length (part list from to) ≡ n = ap length (sym (drop-take from to list)) ∙ length-slice from to list (i .within) ∙ omega (arith, i .ends) in
+    let t : to - (at + 1) ≡ length (number 2 .write n) + (to - from) = omega (arith, length-number 2 n, i .begins, i .ends) in
+    rw (f, l, b, t) (take-append-add (number 2 .write n) (drop from list) (to - from))
+
+pub key-length : (s : Bytes) (from to : ℕ) → to ≤ length s → length (part s from to) ≡ to - from
+key-length s from to h = ap length (sym (drop-take from to s)) ∙ length-slice from to s h
+
+-- a key within the limit has a record, two bytes longer than the key
+pub key-ok : (m : ℕ) (k : Bytes) → length k ≤ m → m < 65536 → keyForm m .Ok k
+unfolding keyForm via bind only raw number
+key-ok m k h l = ((omega arith, le-leb (length k) m h), refl)
+
+pub record-length : (m : ℕ) (k : Bytes) → length (keyForm m .write k) ≡ 2 + length k
+unfolding keyForm via bind only raw
+record-length m k = length-append (number 2 .write (length k)) k ∙ rw (length-number 2 (length k))

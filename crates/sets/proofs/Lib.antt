@@ -1,0 +1,5 @@
+pub mod KeyLaws
+pub mod FindLaws
+pub mod PutLaws
+pub mod TotalLaws
+pub mod InsertLaws

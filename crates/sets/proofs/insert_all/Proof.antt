@@ -1,0 +1,172 @@
+use Prim.Native.Nat.{_-_}
+use native.Mathlib.Omega.{arith}
+use borrow.Author.Needs.{needs}
+use denote.Ref.{now}
+use lib.ListN.{length}
+use Rattle.fields.specs.declared.NextKey.{NextKey}
+use Rattle.fields.specs.Forms.{NextIs}
+use Rattle.sets.specs.declared.Found.{Found}
+use Rattle.sets.specs.Sets.{FoundIs}
+use Rattle.sets.proofs.KeyLaws.{part}
+use Rattle.sets.proofs.InsertLaws.{Adding, add-start, rows-now, end-inside, all-added, never-bad, add-there, full-marks, full-bytes, fits, can-splice, add-put}
+use Rattle.sets.proofs.insert_all.Statement.{statement}
+use Rattle.sets.proofs.insert_all.Tie as tie
+use Rattle.sets.proofs.insert_all.Reads as reads
+use Rattle.sets.proofs.insert_all.Lts as lts
+use Rattle.fields.proofs.next_key.Reads as next-key-reads
+use Rattle.moves.proofs.splice.Reads as splice-reads
+use Rattle.sets.proofs.find_place.Reads as find-place-reads
+
+abbrev Inv-loop : tie.InvT-loop
+Inv-loop draft₀ used count list marks bytes end₀ held₀ marks-left₀ bytes-left₀ at₀ draft end held marks-left bytes-left at =
+    Adding draft₀ used count list marks bytes draft end held marks-left bytes-left at
+
+abbrev μ-loop : tie.MeasureT-loop
+μ-loop draft₀ used count list marks bytes end₀ held₀ marks-left₀ bytes-left₀ at₀ draft end held marks-left bytes-left at =
+    length list - at
+
+-- the key that was read in this turn, and where it belongs
+seen : (c : tie.After-from Inv-loop μ-loop) → NextIs (now (c .before .before .before .before .before .before .args .list)) (c .before .before .before .loop .at) (NextKey.Key (c .from .given .0 .0) (c .from .given .0 .1 .0))
+seen c = rw (c .from .given .1) at (c .before .before .next-key .ensures)
+
+found : (c : tie.After-place Inv-loop μ-loop) → FoundIs (c .before .before .before .before .before .before .before .before .before .loop .draft) (c .before .before .before .before .before .before .before .before .before .loop .held) (part (now (c .before .before .before .before .before .before .before .before .before .before .before .before .args .list)) (c .before .before .before .before .before .before .from .given .0 .0) (c .before .before .before .before .before .before .from .given .0 .1 .0)) (Found.Before (c .place .given .0 .0))
+found c = rw (c .place .given .1) at (c .before .before .find-place .ensures)
+
+loop-holds : tie.Need-loop-holds Inv-loop μ-loop
+loop-holds c = add-start (c .before .before .pre)
+
+next-key-requires : tie.Need-next-key-requires Inv-loop μ-loop
+next-key-requires c κs = search needs
+
+enum-known-from : tie.Need-enum-known-from Inv-loop μ-loop
+enum-known-from c = search needs
+
+sub-find-place : tie.Need-sub-find-place Inv-loop μ-loop
+sub-find-place c = omega (arith, seen (c .before .before))
+
+part-find-place-start : tie.Need-part-find-place-start Inv-loop μ-loop
+part-find-place-start c = omega (arith, seen (c .before .before))
+
+part-find-place-end : tie.Need-part-find-place-end Inv-loop μ-loop
+part-find-place-end c = omega (arith, seen (c .before .before))
+
+find-place-requires : tie.Need-find-place-requires Inv-loop μ-loop
+find-place-requires c κs = rows-now (c .before .before .before .before .before .before .loop .inv)
+
+enum-told : tie.Need-enum-told Inv-loop μ-loop
+enum-told c = search needs
+
+loop-less : tie.Need-loop-less Inv-loop μ-loop
+loop-less c = omega (arith, seen (c .before .before .before .before .before .before))
+
+loop-again : tie.Need-loop-again Inv-loop μ-loop
+loop-again c = add-there (c .before .before .before .before .before .before .before .before .before .loop .inv) (seen (c .before .before .before .before .before .before)) (rw (c .enum-told .given .1) at (c .before .before .find-place .ensures))
+
+enum-known-place : tie.Need-enum-known-place Inv-loop μ-loop
+enum-known-place c = search needs
+
+sub-size : tie.Need-sub-size Inv-loop μ-loop
+sub-size c = omega (arith, seen (c .before .before .before .before .before .before .before))
+
+same-length : tie.Need-same-length Inv-loop μ-loop
+same-length c = search needs
+
+returns : tie.Need-returns Inv-loop μ-loop
+returns c = full-marks (c .before .before .before .before .before .before .before .before .before .before .before .loop .inv) (seen (c .before .before .before .before .before .before .before .before)) (found (c .before .before)) (c .if1 .taken)
+
+same-length-2 : tie.Need-same-length-2 Inv-loop μ-loop
+same-length-2 c = search needs
+
+returns-2 : tie.Need-returns-2 Inv-loop μ-loop
+returns-2 c = full-bytes (c .before .before .before .before .before .before .before .before .before .before .before .before .loop .inv) (seen (c .before .before .before .before .before .before .before .before .before)) (found (c .before .before .before)) (c .if2 .taken)
+
+sub-head : tie.Need-sub-head Inv-loop μ-loop
+sub-head c = omega (arith, seen (c .before .before .before .before .before .before .before .before .before))
+
+sub-splice : tie.Need-sub-splice Inv-loop μ-loop
+sub-splice c = omega (arith, seen (c .before .before .before .before .before .before .before .before .before .before))
+
+part-splice-start : tie.Need-part-splice-start Inv-loop μ-loop
+part-splice-start c = omega (arith, seen (c .before .before .before .before .before .before .before .before .before .before))
+
+part-splice-end : tie.Need-part-splice-end Inv-loop μ-loop
+part-splice-end c = omega (arith, seen (c .before .before .before .before .before .before .before .before .before .before))
+
+splice-requires : tie.Need-splice-requires Inv-loop μ-loop
+splice-requires c κs = can-splice (c .before .before .before .before .before .before .before .before .before .before .before .before .before .before .loop .inv) (seen (c .before .before .before .before .before .before .before .before .before .before .before)) (found (c .before .before .before .before .before)) (c .before .before .before .if1 .left) (c .before .before .if2 .left)
+
+add-end : tie.Need-add-end Inv-loop μ-loop
+add-end c = search needs
+
+add-end-2 : tie.Need-add-end-2 Inv-loop μ-loop
+add-end-2 c = omega (arith, fits (c .before .before .before .before .before .before .before .before .before .before .before .before .before .before .before .before .before .loop .inv) (seen (c .before .before .before .before .before .before .before .before .before .before .before .before .before .before)) (found (c .before .before .before .before .before .before .before .before)) (c .before .before .before .before .before .before .if1 .left) (c .before .before .before .before .before .if2 .left))
+
+add-held : tie.Need-add-held Inv-loop μ-loop
+add-held c = omega (arith, end-inside (c .before .before .before .before .before .before .before .before .before .before .before .before .before .before .before .before .before .loop .inv))
+
+sub-marks-left : tie.Need-sub-marks-left Inv-loop μ-loop
+sub-marks-left c = search needs
+
+loop-less-2 : tie.Need-loop-less-2 Inv-loop μ-loop
+loop-less-2 c = omega (arith, seen (c .before .before .before .before .before .before .before .before .before .before .before .before .before .before))
+
+loop-again-2 : tie.Need-loop-again-2 Inv-loop μ-loop
+loop-again-2 c = add-put (c .before .before .before .before .before .before .before .before .before .before .before .before .before .before .before .before .before .loop .inv) (seen (c .before .before .before .before .before .before .before .before .before .before .before .before .before .before)) (found (c .before .before .before .before .before .before .before .before)) (c .before .before .before .before .before .before .if1 .left) (c .before .before .before .before .before .if2 .left) (λ i. omega (arith, c .before .before .before .before .before .before .before .before .before .before .before .before .before .before .before .before .before .before .shared-slice-known .given i)) (c .before .before .splice .ensures)
+
+enum-told-2 : tie.Need-enum-told-2 Inv-loop μ-loop
+enum-told-2 c = search needs
+
+same-length-3 : tie.Need-same-length-3 Inv-loop μ-loop
+same-length-3 c = search needs
+
+returns-3 : tie.Need-returns-3 Inv-loop μ-loop
+returns-3 c = all-added (c .before .before .before .loop .inv) (rw (c .enum-told2 .given .1) at (c .before .before .next-key .ensures))
+
+enum-told-3 : tie.Need-enum-told-3 Inv-loop μ-loop
+enum-told-3 c = search needs
+
+same-length-4 : tie.Need-same-length-4 Inv-loop μ-loop
+same-length-4 c = search needs
+
+returns-4 : tie.Need-returns-4 Inv-loop μ-loop
+returns-4 c = absurd (never-bad (c .before .before .before .loop .inv) (rw (c .enum-told3 .given .1) at (c .before .before .next-key .ensures)))
+
+pub insert-all-spec : {M : Type 1} → statement M
+insert-all-spec =
+    tie.close
+    (tie.spec
+    Inv-loop
+    μ-loop
+    loop-holds
+    next-key-requires
+    enum-known-from
+    sub-find-place
+    part-find-place-start
+    part-find-place-end
+    find-place-requires
+    enum-told
+    loop-less
+    loop-again
+    enum-known-place
+    sub-size
+    same-length
+    returns
+    same-length-2
+    returns-2
+    sub-head
+    sub-splice
+    part-splice-start
+    part-splice-end
+    splice-requires
+    add-end
+    add-end-2
+    add-held
+    sub-marks-left
+    loop-less-2
+    loop-again-2
+    enum-told-2
+    same-length-3
+    returns-3
+    enum-told-3
+    same-length-4
+    returns-4)

@@ -1,0 +1,101 @@
+// Sets of keys in a draft: the record of each key after the other, ascending.
+ghost use Rattle.layout.specs.Places.{Here, Rows, Ends};
+ghost use Rattle.sets.specs.Sets.{Key, FoundIs, Ready, InsertedIs};
+use codec::numbers::read_two;
+use fields::NextKey;
+use fields::next_key;
+use moves::splice;
+
+// A key's length takes this many bytes.
+const HEAD: usize = 2;
+
+// Where the key that stands at a place ends.
+fn key_past(room: &[u8], at: usize) -> usize
+    requires { ⌜ Here Key (now room) at ⌝ }
+    ensures { λ r. ⌜ Ends Key (now (room .entry)) at r ⌝ }
+{
+    at + HEAD + read_two(room, at)
+}
+
+// Where a key belongs in a set: it is there, or it is to stand before what stands at a place.
+enum Found {
+    There,
+    Before(usize),
+}
+
+fn find_place(draft: &[u8], count: usize, key: &[u8]) -> Found
+    requires { ⌜ Rows Key (now draft) 0 count ⌝ }
+    ensures { λ r. ⌜ FoundIs (now (draft .entry)) count (now (key .entry)) r ⌝ }
+{
+    let mut at = 0;
+    let mut left = count;
+    while 0 < left {
+        let from = at + HEAD;
+        let next = key_past(draft, at);
+        let side = keys::compare(key, &draft[from..next]);
+        if side < 0 {
+            return Found::Before(at);
+        }
+        if side == 0 {
+            return Found::There;
+        }
+        at = next;
+        left -= 1;
+    }
+    Found::Before(at)
+}
+
+pub enum Inserted {
+    All { used: usize, count: usize },
+    Full,
+}
+
+// Puts the keys of a list into the set of `count` keys in the first `used` bytes of a draft; not more than `marks` new ones, nor
+// more than `bytes` of new key bytes.
+pub fn insert_all(
+    draft: &mut [u8],
+    used: usize,
+    count: usize,
+    list: &[u8],
+    marks: usize,
+    bytes: usize,
+) -> Inserted
+    requires { ⌜ Ready (now draft) used count (now list) marks bytes ⌝ }
+    ensures { λ r. ⌜ InsertedIs (now (draft .entry)) used count (now (list .entry)) marks bytes (now (draft .exit)) r ⌝ }
+{
+    let mut end = used;
+    let mut held = count;
+    let mut marks_left = marks;
+    let mut bytes_left = bytes;
+    let mut at = 0;
+    loop {
+        match next_key(list, at) {
+            NextKey::Key { from, to } => match find_place(draft, held, &list[from..to]) {
+                Found::There => {
+                    at = to;
+                }
+                Found::Before(place) => {
+                    let size = to - from;
+                    if marks_left == 0 {
+                        return Inserted::Full;
+                    }
+                    if bytes_left < size {
+                        return Inserted::Full;
+                    }
+                    let head = from - HEAD;
+                    splice(draft, end, place, 0, &list[head..to]);
+                    end += HEAD + size;
+                    held += 1;
+                    marks_left -= 1;
+                    bytes_left -= size;
+                    at = to;
+                }
+            },
+            NextKey::End => return Inserted::All {
+                used: end,
+                count: held,
+            },
+            NextKey::Bad => return Inserted::Full,
+        }
+    }
+}
