@@ -27,22 +27,22 @@ fn find_place(draft: &[u8], count: usize, key: &[u8]) -> Found
     requires { ⌜ Rows Key (now draft) 0 count ⌝ }
     ensures { λ r. ⌜ FoundIs (now (draft .entry)) count (now (key .entry)) r ⌝ }
 {
-    let mut at = 0;
+    let mut place = 0;
     let mut left = count;
     while 0 < left {
-        let from = at + HEAD;
-        let next = key_past(draft, at);
+        let from = place + HEAD;
+        let next = key_past(draft, place);
         let side = keys::compare(key, &draft[from..next]);
         if side < 0 {
-            return Found::Before(at);
+            return Found::Before(place);
         }
         if side == 0 {
             return Found::There;
         }
-        at = next;
+        place = next;
         left -= 1;
     }
-    Found::Before(at)
+    Found::Before(place)
 }
 
 pub enum Inserted {
@@ -63,38 +63,30 @@ pub fn insert_all(
     requires { ⌜ Ready (now draft) used count (now list) marks bytes ⌝ }
     ensures { λ r. ⌜ InsertedIs (now (draft .entry)) used count (now (list .entry)) marks bytes (now (draft .exit)) r ⌝ }
 {
-    let mut end = used;
-    let mut held = count;
-    let mut marks_left = marks;
-    let mut bytes_left = bytes;
+    let mut used = used;
+    let mut count = count;
+    let mut marks = marks;
+    let mut bytes = bytes;
     let mut at = 0;
     loop {
         match next_key(list, at) {
-            NextKey::Key { from, to } => match find_place(draft, held, &list[from..to]) {
-                Found::There => {
-                    at = to;
-                }
+            NextKey::Key { from, to } => match find_place(draft, count, &list[from..to]) {
+                Found::There => at = to,
                 Found::Before(place) => {
                     let size = to - from;
-                    if marks_left == 0 {
-                        return Inserted::Full;
-                    }
-                    if bytes_left < size {
+                    if marks == 0 || bytes < size {
                         return Inserted::Full;
                     }
                     let head = from - HEAD;
-                    splice(draft, end, place, 0, &list[head..to]);
-                    end += HEAD + size;
-                    held += 1;
-                    marks_left -= 1;
-                    bytes_left -= size;
+                    splice(draft, used, place, 0, &list[head..to]);
+                    used += HEAD + size;
+                    count += 1;
+                    marks -= 1;
+                    bytes -= size;
                     at = to;
                 }
             },
-            NextKey::End => return Inserted::All {
-                used: end,
-                count: held,
-            },
+            NextKey::End => return Inserted::All { used, count },
             NextKey::Bad => return Inserted::Full,
         }
     }

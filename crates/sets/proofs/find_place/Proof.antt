@@ -9,10 +9,10 @@ use Rattle.keys.proofs.compare.Reads as compare-reads
 use Rattle.sets.proofs.key_past.Reads as key-past-reads
 
 abbrev Inv-loop : tie.InvT-loop
-Inv-loop draft count key at₀ left₀ at left = Seek draft count key at left
+Inv-loop draft count key place₀ left₀ place left = Seek draft count key place left
 
 abbrev μ-loop : tie.MeasureT-loop
-μ-loop draft count key at₀ left₀ at left = left
+μ-loop draft count key place₀ left₀ place left = left
 
 loop-holds : tie.Need-loop-holds Inv-loop μ-loop
 loop-holds c = seek-start (c .before .before .pre)

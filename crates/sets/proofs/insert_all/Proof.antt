@@ -1,6 +1,8 @@
-use Prim.Native.Nat.{_-_}
+use Prim.Native.Nat.{_+_, _-_, _≤_}
+use mathlib.Core.Logic.{⊎-elim}
 use native.Mathlib.Omega.{arith}
 use borrow.Author.Needs.{needs}
+use borrow.Author.Tests.{ltb-true, ltb-false}
 use denote.Ref.{now}
 use lib.ListN.{length}
 use Rattle.fields.specs.declared.NextKey.{NextKey}
@@ -18,18 +20,18 @@ use Rattle.moves.proofs.splice.Reads as splice-reads
 use Rattle.sets.proofs.find_place.Reads as find-place-reads
 
 abbrev Inv-loop : tie.InvT-loop
-Inv-loop draft₀ used count list marks bytes end₀ held₀ marks-left₀ bytes-left₀ at₀ draft end held marks-left bytes-left at =
-    Adding draft₀ used count list marks bytes draft end held marks-left bytes-left at
+Inv-loop draft₀ used count list marks bytes used₀ count₀ marks₀ bytes₀ at₀ draft used' count' marks' bytes' at =
+    Adding draft₀ used count list marks bytes draft used' count' marks' bytes' at
 
 abbrev μ-loop : tie.MeasureT-loop
-μ-loop draft₀ used count list marks bytes end₀ held₀ marks-left₀ bytes-left₀ at₀ draft end held marks-left bytes-left at =
+μ-loop draft₀ used count list marks bytes used₀ count₀ marks₀ bytes₀ at₀ draft used' count' marks' bytes' at =
     length list - at
 
 -- the key that was read in this turn, and where it belongs
 seen : (c : tie.After-from Inv-loop μ-loop) → NextIs (now (c .before .before .before .before .before .before .args .list)) (c .before .before .before .loop .at) (NextKey.Key (c .from .given .0 .0) (c .from .given .0 .1 .0))
 seen c = rw (c .from .given .1) at (c .before .before .next-key .ensures)
 
-found : (c : tie.After-place Inv-loop μ-loop) → FoundIs (c .before .before .before .before .before .before .before .before .before .loop .draft) (c .before .before .before .before .before .before .before .before .before .loop .held) (part (now (c .before .before .before .before .before .before .before .before .before .before .before .before .args .list)) (c .before .before .before .before .before .before .from .given .0 .0) (c .before .before .before .before .before .before .from .given .0 .1 .0)) (Found.Before (c .place .given .0 .0))
+found : (c : tie.After-place Inv-loop μ-loop) → FoundIs (c .before .before .before .before .before .before .before .before .before .loop .draft) (c .before .before .before .before .before .before .before .before .before .loop .count) (part (now (c .before .before .before .before .before .before .before .before .before .before .before .before .args .list)) (c .before .before .before .before .before .before .from .given .0 .0) (c .before .before .before .before .before .before .from .given .0 .1 .0)) (Found.Before (c .place .given .0 .0))
 found c = rw (c .place .given .1) at (c .before .before .find-place .ensures)
 
 loop-holds : tie.Need-loop-holds Inv-loop μ-loop
@@ -68,17 +70,15 @@ enum-known-place c = search needs
 sub-size : tie.Need-sub-size Inv-loop μ-loop
 sub-size c = omega (arith, seen (c .before .before .before .before .before .before .before))
 
+-- both limits leave room for it
+room : (c : tie.Else2 Inv-loop μ-loop) → c .before .before .before .before .before .before .before .before .before .before .before .before .loop .used + (2 + (c .before .before .before .before .before .before .before .before .before .from .given .0 .1 .0 - c .before .before .before .before .before .before .before .before .before .from .given .0 .0)) ≤ length (c .before .before .before .before .before .before .before .before .before .before .before .before .loop .draft)
+room c = fits (c .before .before .before .before .before .before .before .before .before .before .before .before .loop .inv) (seen (c .before .before .before .before .before .before .before .before .before)) (found (c .before .before .before)) (c .before .if1 .left) (ltb-false _ _ (c .if2 .left))
+
 same-length : tie.Need-same-length Inv-loop μ-loop
 same-length c = search needs
 
 returns : tie.Need-returns Inv-loop μ-loop
-returns c = full-marks (c .before .before .before .before .before .before .before .before .before .before .before .loop .inv) (seen (c .before .before .before .before .before .before .before .before)) (found (c .before .before)) (c .if1 .taken)
-
-same-length-2 : tie.Need-same-length-2 Inv-loop μ-loop
-same-length-2 c = search needs
-
-returns-2 : tie.Need-returns-2 Inv-loop μ-loop
-returns-2 c = full-bytes (c .before .before .before .before .before .before .before .before .before .before .before .before .loop .inv) (seen (c .before .before .before .before .before .before .before .before .before)) (found (c .before .before .before)) (c .if2 .taken)
+returns c = ⊎-elim (λ z. full-marks (c .before .before .before .before .before .before .before .before .before .before .before .loop .inv) (seen (c .before .before .before .before .before .before .before .before)) (found (c .before .before)) (z .taken)) (λ z. full-bytes (c .before .before .before .before .before .before .before .before .before .before .before .loop .inv) (seen (c .before .before .before .before .before .before .before .before)) (found (c .before .before)) (ltb-true _ _ (z .1 .taken))) (c .if1 .came)
 
 sub-head : tie.Need-sub-head Inv-loop μ-loop
 sub-head c = omega (arith, seen (c .before .before .before .before .before .before .before .before .before))
@@ -93,43 +93,46 @@ part-splice-end : tie.Need-part-splice-end Inv-loop μ-loop
 part-splice-end c = omega (arith, seen (c .before .before .before .before .before .before .before .before .before .before))
 
 splice-requires : tie.Need-splice-requires Inv-loop μ-loop
-splice-requires c κs = can-splice (c .before .before .before .before .before .before .before .before .before .before .before .before .before .before .loop .inv) (seen (c .before .before .before .before .before .before .before .before .before .before .before)) (found (c .before .before .before .before .before)) (c .before .before .before .if1 .left) (c .before .before .if2 .left)
+splice-requires c κs = can-splice (c .before .before .before .before .before .before .before .before .before .before .before .before .before .before .loop .inv) (seen (c .before .before .before .before .before .before .before .before .before .before .before)) (found (c .before .before .before .before .before)) (c .before .before .before .if1 .left) (ltb-false _ _ (c .before .before .if2 .left))
 
-add-end : tie.Need-add-end Inv-loop μ-loop
-add-end c = search needs
+add-used : tie.Need-add-used Inv-loop μ-loop
+add-used c = omega (arith, room (c .before .before .before .before .before))
 
-add-end-2 : tie.Need-add-end-2 Inv-loop μ-loop
-add-end-2 c = omega (arith, fits (c .before .before .before .before .before .before .before .before .before .before .before .before .before .before .before .before .before .loop .inv) (seen (c .before .before .before .before .before .before .before .before .before .before .before .before .before .before)) (found (c .before .before .before .before .before .before .before .before)) (c .before .before .before .before .before .before .if1 .left) (c .before .before .before .before .before .if2 .left))
+add-used-2 : tie.Need-add-used-2 Inv-loop μ-loop
+add-used-2 c = omega (arith, room (c .before .before .before .before .before))
 
-add-held : tie.Need-add-held Inv-loop μ-loop
-add-held c = omega (arith, end-inside (c .before .before .before .before .before .before .before .before .before .before .before .before .before .before .before .before .before .loop .inv))
+add-count : tie.Need-add-count Inv-loop μ-loop
+add-count c = omega (arith, end-inside (c .before .before .before .before .before .before .before .before .before .before .before .before .before .before .before .before .before .loop .inv))
 
-sub-marks-left : tie.Need-sub-marks-left Inv-loop μ-loop
-sub-marks-left c = search needs
+sub-marks : tie.Need-sub-marks Inv-loop μ-loop
+sub-marks c = search needs
+
+sub-bytes : tie.Need-sub-bytes Inv-loop μ-loop
+sub-bytes c = ltb-false _ _ (c .before .before .before .before .before .if2 .left)
 
 loop-less-2 : tie.Need-loop-less-2 Inv-loop μ-loop
 loop-less-2 c = omega (arith, seen (c .before .before .before .before .before .before .before .before .before .before .before .before .before .before))
 
 loop-again-2 : tie.Need-loop-again-2 Inv-loop μ-loop
-loop-again-2 c = add-put (c .before .before .before .before .before .before .before .before .before .before .before .before .before .before .before .before .before .loop .inv) (seen (c .before .before .before .before .before .before .before .before .before .before .before .before .before .before)) (found (c .before .before .before .before .before .before .before .before)) (c .before .before .before .before .before .before .if1 .left) (c .before .before .before .before .before .if2 .left) (λ i. omega (arith, c .before .before .before .before .before .before .before .before .before .before .before .before .before .before .before .before .before .before .shared-slice-known .given i)) (c .before .before .splice .ensures)
+loop-again-2 c = add-put (c .before .before .before .before .before .before .before .before .before .before .before .before .before .before .before .before .before .loop .inv) (seen (c .before .before .before .before .before .before .before .before .before .before .before .before .before .before)) (found (c .before .before .before .before .before .before .before .before)) (c .before .before .before .before .before .before .if1 .left) (ltb-false _ _ (c .before .before .before .before .before .if2 .left)) (λ i. omega (arith, c .before .before .before .before .before .before .before .before .before .before .before .before .before .before .before .before .before .before .shared-slice-known .given i)) (c .before .before .splice .ensures)
 
 enum-told-2 : tie.Need-enum-told-2 Inv-loop μ-loop
 enum-told-2 c = search needs
+
+same-length-2 : tie.Need-same-length-2 Inv-loop μ-loop
+same-length-2 c = search needs
+
+returns-2 : tie.Need-returns-2 Inv-loop μ-loop
+returns-2 c = all-added (c .before .before .before .loop .inv) (rw (c .enum-told2 .given .1) at (c .before .before .next-key .ensures))
+
+enum-told-3 : tie.Need-enum-told-3 Inv-loop μ-loop
+enum-told-3 c = search needs
 
 same-length-3 : tie.Need-same-length-3 Inv-loop μ-loop
 same-length-3 c = search needs
 
 returns-3 : tie.Need-returns-3 Inv-loop μ-loop
-returns-3 c = all-added (c .before .before .before .loop .inv) (rw (c .enum-told2 .given .1) at (c .before .before .next-key .ensures))
-
-enum-told-3 : tie.Need-enum-told-3 Inv-loop μ-loop
-enum-told-3 c = search needs
-
-same-length-4 : tie.Need-same-length-4 Inv-loop μ-loop
-same-length-4 c = search needs
-
-returns-4 : tie.Need-returns-4 Inv-loop μ-loop
-returns-4 c = absurd (never-bad (c .before .before .before .loop .inv) (rw (c .enum-told3 .given .1) at (c .before .before .next-key .ensures)))
+returns-3 c = absurd (never-bad (c .before .before .before .loop .inv) (rw (c .enum-told3 .given .1) at (c .before .before .next-key .ensures)))
 
 pub insert-all-spec : {M : Type 1} → statement M
 insert-all-spec =
@@ -151,22 +154,21 @@ insert-all-spec =
     sub-size
     same-length
     returns
-    same-length-2
-    returns-2
     sub-head
     sub-splice
     part-splice-start
     part-splice-end
     splice-requires
-    add-end
-    add-end-2
-    add-held
-    sub-marks-left
+    add-used
+    add-used-2
+    add-count
+    sub-marks
+    sub-bytes
     loop-less-2
     loop-again-2
     enum-told-2
-    same-length-3
-    returns-3
+    same-length-2
+    returns-2
     enum-told-3
-    same-length-4
-    returns-4)
+    same-length-3
+    returns-3)
