@@ -3,7 +3,7 @@ use Prim.Native.Nat.{ℕ, _+_, _-_, _≤_, _<_}
 use mathlib.Core.Path.{_≡_, refl, sym, ap, _∙_}
 use mathlib.Core.Bool.{Bool, true, false, false≢true, _&&_}
 use mathlib.Core.List.{List, [], _∷_}
-use mathlib.Core.Logic.{_⊎_, inl, inr}
+use mathlib.Core.Logic.{_⊎_, ⊎-map}
 use mathlib.Core.Option.{Option, none, some, Option·none-ne-some, Option·some-injective}
 use native.Mathlib.Omega.{arith}
 use borrow.Author.Tests.{leb-true}
@@ -142,15 +142,21 @@ module _ {d₀ : Bytes} {used n : ℕ} {list : Bytes} {marks bytes : ℕ} {d : B
           ∙ ap (λ (l : List Bytes). setBytes l + length (part list from to)) (sym (where-now .whole))
           ∙ ap (λ (x : ℕ). setBytes (v .rest .ks) + x) (key-length list from to (i .within))
 
-      full : (length (v .start .ks) + marks < length (insertAll (v .rest .keys) (v .rest .ks))) ⊎ (setBytes (v .start .ks) + bytes < setBytes (insertAll (v .rest .keys) (v .rest .ks)))
-          → InsertedIs d₀ used n list marks bytes d Inserted.Full
-      full h = record { is = for-every (λ ks all. (length ks + marks < length all) ⊎ (setBytes ks + bytes < setBytes all)) h; size = v .size }
-
-      pub full-marks : marks' ≡ 0 → InsertedIs d₀ used n list marks bytes d Inserted.Full
-      full-marks h = full (inl (rw all-now (omega (arith, h, v .few, longer, insertAll-longer (now-first .more) (insert (part list from to) (v .rest .ks))))))
-
-      pub full-bytes : bytes' < to - from → InsertedIs d₀ used n list marks bytes d Inserted.Full
-      full-bytes h = full (inr (rw all-now (omega (arith, h, v .small, larger, insertAll-bytes (now-first .more) (insert (part list from to) (v .rest .ks))))))
+      -- "track that would pass a total": what is added later takes nothing back
+      pub full : (marks' ≡ 0) ⊎ (bytes' < to - from) → InsertedIs d₀ used n list marks bytes d Inserted.Full
+      full h =
+          let all : List Bytes = insert (part list from to) (v .rest .ks) in
+          record {
+            is =
+                for-every
+                (λ ks l. (length ks + marks < length l) ⊎ (setBytes ks + bytes < setBytes l))
+                (rw all-now
+                (⊎-map
+                (λ z. omega (arith, z, v .few, longer, insertAll-longer (now-first .more) all))
+                (λ z. omega (arith, z, v .small, larger, insertAll-bytes (now-first .more) all))
+                h));
+            size = v .size;
+          }
 
       module _ (m : marks' ≡ 0 → ⊥) (b : to - from ≤ bytes') where
         pub fits : end + (2 + (to - from)) ≤ length d

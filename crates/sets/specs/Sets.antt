@@ -29,6 +29,7 @@ pub record Between (d key : Bytes) (at : ℕ) (ks : List Bytes) (e : ℕ) : Type
   pub before : Row Key d 0 less at
   pub after : Row Key d at more e
 
+-- what the search answers for the set ks
 abbrev pub Placed : Bytes → Bytes → Found → List Bytes → ℕ → Type 0
 Placed d key Found.There ks e = insert key ks ≡ ks
 Placed d key (Found.Before at) ks e = Between d key at ks e
@@ -53,10 +54,12 @@ pub record AllStand (d : Bytes) (ks all : List Bytes) (marks bytes used n : ℕ)
   pub few : length all ≤ length ks + marks
   pub small : setBytes all ≤ setBytes ks + bytes
 
+-- "track that would pass a total": one of the two totals
 abbrev pub Outcome : Bytes → List Bytes → List Bytes → ℕ → ℕ → Inserted → Type 0
 Outcome d ks all marks bytes (Inserted.All used count) = AllStand d ks all marks bytes used count
 Outcome d ks all marks bytes Inserted.Full = (length ks + marks < length all) ⊎ (setBytes ks + bytes < setBytes all)
 
+-- for every set that the used bytes can be read as, and every list of keys
 pub record InsertedIs (d : Bytes) (used count : ℕ) (list : Bytes) (marks bytes : ℕ) (d' : Bytes) (r : Inserted) : Type 0 where
   pub is : (ks keys : List Bytes) → Row Key d 0 ks used → length ks ≡ count → keyList list ≡ some keys → Outcome d' ks (insertAll keys ks) marks bytes r
   pub size : length d' ≡ length d

@@ -1,5 +1,5 @@
 use Prim.Native.Nat.{_+_, _-_, _≤_}
-use mathlib.Core.Logic.{⊎-elim}
+use mathlib.Core.Logic.{⊎-map}
 use native.Mathlib.Omega.{arith}
 use borrow.Author.Needs.{needs}
 use borrow.Author.Tests.{ltb-true, ltb-false}
@@ -10,7 +10,7 @@ use Rattle.fields.specs.Forms.{NextIs}
 use Rattle.sets.specs.declared.Found.{Found}
 use Rattle.sets.specs.Sets.{FoundIs}
 use Rattle.sets.proofs.KeyLaws.{part}
-use Rattle.sets.proofs.InsertLaws.{Adding, add-start, rows-now, end-inside, all-added, never-bad, add-there, full-marks, full-bytes, fits, can-splice, add-put}
+use Rattle.sets.proofs.InsertLaws.{Adding, add-start, rows-now, end-inside, all-added, never-bad, add-there, full, fits, can-splice, add-put}
 use Rattle.sets.proofs.insert_all.Statement.{statement}
 use Rattle.sets.proofs.insert_all.Tie as tie
 use Rattle.sets.proofs.insert_all.Reads as reads
@@ -70,15 +70,15 @@ enum-known-place c = search needs
 sub-size : tie.Need-sub-size Inv-loop μ-loop
 sub-size c = omega (arith, seen (c .before .before .before .before .before .before .before))
 
--- both limits leave room for it
-room : (c : tie.Else2 Inv-loop μ-loop) → c .before .before .before .before .before .before .before .before .before .before .before .before .loop .used + (2 + (c .before .before .before .before .before .before .before .before .before .from .given .0 .1 .0 - c .before .before .before .before .before .before .before .before .before .from .given .0 .0)) ≤ length (c .before .before .before .before .before .before .before .before .before .before .before .before .loop .draft)
-room c = fits (c .before .before .before .before .before .before .before .before .before .before .before .before .loop .inv) (seen (c .before .before .before .before .before .before .before .before .before)) (found (c .before .before .before)) (c .before .if1 .left) (ltb-false _ _ (c .if2 .left))
-
 same-length : tie.Need-same-length Inv-loop μ-loop
 same-length c = search needs
 
 returns : tie.Need-returns Inv-loop μ-loop
-returns c = ⊎-elim (λ z. full-marks (c .before .before .before .before .before .before .before .before .before .before .before .loop .inv) (seen (c .before .before .before .before .before .before .before .before)) (found (c .before .before)) (z .taken)) (λ z. full-bytes (c .before .before .before .before .before .before .before .before .before .before .before .loop .inv) (seen (c .before .before .before .before .before .before .before .before)) (found (c .before .before)) (ltb-true _ _ (z .1 .taken))) (c .if1 .came)
+returns c = full (c .before .before .before .before .before .before .before .before .before .before .before .loop .inv) (seen (c .before .before .before .before .before .before .before .before)) (found (c .before .before)) (⊎-map (λ z. z .taken) (λ z. ltb-true _ _ (z .1 .taken)) (c .if1 .came))
+
+-- both limits leave room for the key
+room : (c : tie.Else2 Inv-loop μ-loop) → (c .before .before .before .before .before .before .before .before .before .from .given .0 .1 .0 - c .before .before .before .before .before .before .before .before .before .from .given .0 .0 ≤ c .before .before .before .before .before .before .before .before .before .before .before .before .loop .bytes) × (c .before .before .before .before .before .before .before .before .before .before .before .before .loop .used + (2 + (c .before .before .before .before .before .before .before .before .before .from .given .0 .1 .0 - c .before .before .before .before .before .before .before .before .before .from .given .0 .0)) ≤ length (c .before .before .before .before .before .before .before .before .before .before .before .before .loop .draft))
+room c = let b = ltb-false _ _ (c .if2 .left) in (b, fits (c .before .before .before .before .before .before .before .before .before .before .before .before .loop .inv) (seen (c .before .before .before .before .before .before .before .before .before)) (found (c .before .before .before)) (c .before .if1 .left) b)
 
 sub-head : tie.Need-sub-head Inv-loop μ-loop
 sub-head c = omega (arith, seen (c .before .before .before .before .before .before .before .before .before))
@@ -93,7 +93,7 @@ part-splice-end : tie.Need-part-splice-end Inv-loop μ-loop
 part-splice-end c = omega (arith, seen (c .before .before .before .before .before .before .before .before .before .before))
 
 splice-requires : tie.Need-splice-requires Inv-loop μ-loop
-splice-requires c κs = can-splice (c .before .before .before .before .before .before .before .before .before .before .before .before .before .before .loop .inv) (seen (c .before .before .before .before .before .before .before .before .before .before .before)) (found (c .before .before .before .before .before)) (c .before .before .before .if1 .left) (ltb-false _ _ (c .before .before .if2 .left))
+splice-requires c κs = can-splice (c .before .before .before .before .before .before .before .before .before .before .before .before .before .before .loop .inv) (seen (c .before .before .before .before .before .before .before .before .before .before .before)) (found (c .before .before .before .before .before)) (c .before .before .before .if1 .left) (room (c .before .before) .0)
 
 add-used : tie.Need-add-used Inv-loop μ-loop
 add-used c = omega (arith, room (c .before .before .before .before .before))
@@ -108,13 +108,13 @@ sub-marks : tie.Need-sub-marks Inv-loop μ-loop
 sub-marks c = search needs
 
 sub-bytes : tie.Need-sub-bytes Inv-loop μ-loop
-sub-bytes c = ltb-false _ _ (c .before .before .before .before .before .if2 .left)
+sub-bytes c = omega (arith, room (c .before .before .before .before .before))
 
 loop-less-2 : tie.Need-loop-less-2 Inv-loop μ-loop
 loop-less-2 c = omega (arith, seen (c .before .before .before .before .before .before .before .before .before .before .before .before .before .before))
 
 loop-again-2 : tie.Need-loop-again-2 Inv-loop μ-loop
-loop-again-2 c = add-put (c .before .before .before .before .before .before .before .before .before .before .before .before .before .before .before .before .before .loop .inv) (seen (c .before .before .before .before .before .before .before .before .before .before .before .before .before .before)) (found (c .before .before .before .before .before .before .before .before)) (c .before .before .before .before .before .before .if1 .left) (ltb-false _ _ (c .before .before .before .before .before .if2 .left)) (λ i. omega (arith, c .before .before .before .before .before .before .before .before .before .before .before .before .before .before .before .before .before .before .shared-slice-known .given i)) (c .before .before .splice .ensures)
+loop-again-2 c = add-put (c .before .before .before .before .before .before .before .before .before .before .before .before .before .before .before .before .before .loop .inv) (seen (c .before .before .before .before .before .before .before .before .before .before .before .before .before .before)) (found (c .before .before .before .before .before .before .before .before)) (c .before .before .before .before .before .before .if1 .left) (room (c .before .before .before .before .before) .0) (λ i. omega (arith, c .before .before .before .before .before .before .before .before .before .before .before .before .before .before .before .before .before .before .shared-slice-known .given i)) (c .before .before .splice .ensures)
 
 enum-told-2 : tie.Need-enum-told-2 Inv-loop μ-loop
 enum-told-2 c = search needs
