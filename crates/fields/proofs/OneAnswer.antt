@@ -6,14 +6,13 @@ use mathlib.Core.List.{List}
 use mathlib.Core.Logic.{_⊎_, inl, inr}
 use mathlib.Core.Option.{Option, some, Option·none-ne-some, Option·some-injective}
 use native.Mathlib.Omega.{arith}
-use contract.Lifetimes.{Lfts}
-use denote.Triple.Clauses.{AtExit}
-use borrow.Fn.Kinds.{PK, RK, Dens, Out, resT, endedOf}
 use lib.ListN.{length, getD, length-drop}
+use Rattle.keys.proofs.OneAnswer.{OneAnswer}
 use Rattle.bounds.specs.declared.kind.Kind.{Kind}
 use Rattle.bounds.specs.declared.kind.Kind.the-variants.{Unbounded, Included, Excluded}
-use Rattle.bounds.specs.Bounds.{Bound, unbounded, included, excluded, bound}
+use Rattle.bounds.specs.Bounds.{bound}
 use Rattle.bounds.specs.Ranges.{range}
+use Rattle.ranges.specs.Making.{kindOf}
 use Rattle.fields.specs.declared.FieldAt.{FieldAt}
 use Rattle.fields.specs.declared.NextKey.{NextKey}
 use Rattle.fields.specs.declared.Places.{Places}
@@ -27,10 +26,6 @@ use Rattle.fields.proofs.check_keys.Kinds as check-keys-kinds
 use Rattle.fields.proofs.check_keys.Reads as check-keys
 use Rattle.fields.proofs.read_bounds.Kinds as read-bounds-kinds
 use Rattle.fields.proofs.read_bounds.Reads as read-bounds
-
--- whatever the arguments, two results that the contract allows are equal
-abbrev pub OneAnswer : (n : ℕ) (ps : List (PK n)) (r : RK n) → Out n ps r → Type 0
-OneAnswer n ps r Post = (κs : Lfts n) (a : Dens κs ps) (x y : resT r κs .Denot) (s t : AtExit (endedOf n ps r) κs) → Post κs a x s → Post κs a y t → x ≡ y
 
 -- a whole field, the end and a cut field exclude each other, and a field stands in one place
 module _ (bs : List ℕ) (at : ℕ) where
@@ -79,11 +74,6 @@ module _ (bs : List ℕ) (at : ℕ) where
   next-once NextKey.Bad (NextKey.Key f u) i j = absurd (not-wrong j refl (i .wrong))
   next-once NextKey.Bad NextKey.End i j = absurd (left-over (i .left) j)
   next-once NextKey.Bad NextKey.Bad i j = refl
-
-abbrev kindOf : Bound → Kind
-kindOf unbounded = Unbounded
-kindOf (included k) = Included
-kindOf (excluded k) = Excluded
 
 kind-of-bound : (k : Kind) (x : List ℕ) → kindOf (bound k x) ≡ k
 kind-of-bound Unbounded x = refl

@@ -69,12 +69,6 @@ abbrev pub formOf : Option (List (List ℕ)) → Form
 formOf none = Form.Malformed
 formOf (some ks) = cond (shortKeys keyLimit ks) Form.Good Form.Long
 
--- document 01's number of each verdict
-abbrev pub formStatus : Form → ℕ
-formStatus Form.Good = 0
-formStatus Form.Long = 4
-formStatus Form.Malformed = 2
-
 -- the first item of a list that can be read and has one
 abbrev pub firstOf : {A : Type 0} → Option (List A) → Option A
 firstOf none = none

@@ -1,11 +1,7 @@
 -- "Show that any two results allowed for one call are equal": said of each contract at the boundary, as the checker reads
 -- it.
-use Prim.Native.Nat.{ℕ}
-use mathlib.Core.Path.{_≡_, sym, _∙_}
-use mathlib.Core.List.{List}
-use contract.Lifetimes.{Lfts}
-use denote.Triple.Clauses.{AtExit}
-use borrow.Fn.Kinds.{PK, RK, Dens, Out, resT, endedOf}
+use mathlib.Core.Path.{sym, _∙_}
+use Rattle.keys.proofs.OneAnswer.{OneAnswer}
 use Rattle.host.proofs.stranvek_compare.Kinds as compare-kinds
 use Rattle.host.proofs.stranvek_compare.Reads as compare
 use Rattle.host.proofs.stranvek_equal.Kinds as equal-kinds
@@ -38,10 +34,6 @@ use Rattle.host.proofs.stranvek_from_prefix.Kinds as from-prefix-kinds
 use Rattle.host.proofs.stranvek_from_prefix.Reads as from-prefix
 use Rattle.host.proofs.stranvek_from_prefix_and_subrange.Kinds as from-prefix-and-subrange-kinds
 use Rattle.host.proofs.stranvek_from_prefix_and_subrange.Reads as from-prefix-and-subrange
-
--- whatever the arguments, two results that the contract allows are equal
-abbrev pub OneAnswer : (n : ℕ) (ps : List (PK n)) (r : RK n) → Out n ps r → Type 0
-OneAnswer n ps r Post = (κs : Lfts n) (a : Dens κs ps) (x y : resT r κs .Denot) (s t : AtExit (endedOf n ps r) κs) → Post κs a x s → Post κs a y t → x ≡ y
 
 pub one-compare : OneAnswer 2 compare-kinds.ps compare-kinds.r compare.Post
 one-compare κs a x y s t p q = p ∙ sym q

@@ -3,3 +3,4 @@ pub mod Signs
 pub mod Steps
 pub mod Prefixes
 pub mod OrderLaws
+pub mod OneAnswer
