@@ -6,7 +6,6 @@ use mathlib.Core.List.{List}
 use native.Mathlib.Omega.{arith}
 use lib.Dec.{eqb}
 use lib.ListN.{length, getD, take, drop}
-use lib.Seq.{slice}
 use Rattle.bounds.specs.Bounds.{Bound, unbounded, included, excluded, bound}
 use Rattle.bounds.specs.Ranges.{Range, range, rangeOf, holds}
 use Rattle.bounds.specs.declared.comparable_range.ComparableRange.{ComparableRange}

@@ -13,7 +13,7 @@ use Rattle.machine.specs.State.{Bytes, Txn, Entry, base}
 use Rattle.machine.specs.Sets.{tracks, conflict}
 use Rattle.codec.specs.Formats.{number}
 use Rattle.codec.specs.Places.{Stands}
-use Rattle.layout.specs.Keys.{keyForm, setForm, below}
+use Rattle.layout.specs.Keys.{keyForm, below}
 use Rattle.layout.specs.Records.{entryForm, txnForm}
 use Rattle.layout.specs.Places.{Part, Row, Here, Rows, Ends}
 use Rattle.layout.proofs.PartLaws.{number-read-is}

@@ -6,7 +6,7 @@ use Rattle.bounds.specs.Ranges.{holds}
 use Rattle.machine.specs.Lists.{any}
 use Rattle.machine.specs.State.{Bytes, Txn}
 use Rattle.machine.specs.Sets.{equal, tracks}
-use Rattle.search.specs.Marks.{Mark, key, range, meets, marksOf}
+use Rattle.search.specs.Marks.{key, range, meets, marksOf}
 
 any-append : {A : Type 0} (p : A → Bool) (xs ys : List A) → any p (xs ++ ys) ≡ (any p xs || any p ys)
 unfolding any

@@ -43,9 +43,11 @@ pub fn in_range(room: &[u8], at: usize, key: &[u8]) -> bool
     ensures { λ r. ⌜ InRange (now (room .entry)) at (now (key .entry)) r ⌝ }
 {
     let middle = bound_past(room, at);
-    let end = bound_past(room, middle);
-    let range = ComparableRange::new(kind_at(room, at), kind_at(room, middle));
+    let to = bound_past(room, middle);
+    let start = kind_at(room, at);
+    let end = kind_at(room, middle);
+    let range = ComparableRange::new(start, end);
     let start_key = at + 3;
     let end_key = middle + 3;
-    range.contains(&room[start_key..middle], &room[end_key..end], key)
+    range.contains(&room[start_key..middle], &room[end_key..to], key)
 }

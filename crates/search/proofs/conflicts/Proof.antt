@@ -1,23 +1,19 @@
-use Prim.Native.Nat.{_+_, _≤_, _<_}
-use mathlib.Core.Path.{_≡_, refl, sym, _∙_}
-use mathlib.Core.Bool.{true, false}
+use mathlib.Core.Path.{_≡_, refl, sym, ap, _∙_}
+use mathlib.Core.Bool.{false}
 use mathlib.Core.Logic.{⊎-elim}
 use native.Mathlib.Omega.{arith}
-use borrow.Author.Tests.{not-true, not-false}
-use Rattle.search.specs.Cursors.{marksLeft}
-use Rattle.search.proofs.MarkLaws.{key-ends}
-use Rattle.search.proofs.SearchLaws.{MarksWalk, KeysWalk, EntriesWalk}
-use denote.Ref.{now}
 use borrow.Author.Needs.{needs}
-use mathlib.Core.Path.{ap}
+use borrow.Author.Tests.{not-true, not-false}
+use denote.Ref.{now}
+use lib.Dec.{eqb}
 use Rattle.machine.specs.State.{base}
 use Rattle.layout.specs.Keys.{keyForm}
 use Rattle.layout.specs.Records.{entryForm}
 use Rattle.layout.specs.Places.{Here}
 use Rattle.search.specs.declared.cursor.Cursor.{Cursor}
-use Rattle.search.specs.Cursors.{Stays}
-use Rattle.search.proofs.MarkLaws.{key-room}
-use Rattle.search.proofs.SearchLaws.{txn-room, entry-room, marks-start, marks-stay, marks-none, marks-hit, marks-next, next-less, keys-start, keys-here, keys-none, keys-hit, keys-next, entries-start, entries-here, entries-none, entries-hit, entry-early, entry-apart}
+use Rattle.search.specs.Cursors.{marksLeft, Stays}
+use Rattle.search.proofs.MarkLaws.{key-room, key-ends}
+use Rattle.search.proofs.SearchLaws.{MarksWalk, KeysWalk, EntriesWalk, txn-room, entry-room, marks-start, marks-stay, marks-none, marks-hit, marks-next, next-less, keys-start, keys-here, keys-none, keys-hit, keys-next, entries-start, entries-here, entries-none, entries-hit, entry-early, entry-apart}
 use Rattle.search.proofs.conflicts.Statement.{statement}
 use Rattle.search.proofs.conflicts.Tie as tie
 use Rattle.search.proofs.conflicts.Reads as reads
@@ -51,15 +47,36 @@ Inv-search room at entries txn start marks found₀ e₀ found e = (found ≡ fa
 abbrev μ-search : tie.MeasureT-search
 μ-search room at entries txn start marks found₀ e₀ found e = e .left
 
--- what stands at the cursors, inside each loop
-entry-at : (c : tie.Then1 Inv-loop2 μ-loop2 Inv-loop μ-loop Inv-search μ-search) → Here (entryForm (base .key)) (now (c .before .before .before .before .before .before .before .args .room)) (c .before .before .search .e .at)
-entry-at c = entries-here _ _ _ _ _ (c .before .before .search .inv .1) (c .before .before .before .before .before .before .before .pre .0) (c .before .before .before .before .before .before .before .pre .1) (c .if1 .taken)
+-- inside the three loops, and from each to the one around it
+abbrev InEntry : Type 0
+InEntry = tie.Then1 Inv-loop2 μ-loop2 Inv-loop μ-loop Inv-search μ-search
 
-key-at : (c : tie.Then3 Inv-loop2 μ-loop2 Inv-loop μ-loop Inv-search μ-search) → Here (keyForm (base .key)) (now (c .before .before .before .before .before .before .before .before .before .before .before .before .before .before .args .room)) (c .before .before .loop .k .at)
-key-at c = keys-here _ _ _ _ (c .before .before .loop .inv .1) (c .before .before .before .before .before .before .before .before .before .before .before .before .before .before .pre .1) (entry-at (c .before .before .before .before .before .before .before)) (c .if3 .taken)
+abbrev InKey : Type 0
+InKey = tie.Then3 Inv-loop2 μ-loop2 Inv-loop μ-loop Inv-search μ-search
 
-mark-at : (c : tie.Then4 Inv-loop2 μ-loop2 Inv-loop μ-loop Inv-search μ-search) → Stays (now (c .before .before .before .before .before .before .before .before .before .before .before .before .before .before .before .before .before .before .before .args .room)) (c .before .before .loop2 .m)
-mark-at c = marks-stay _ _ _ _ (c .before .before .loop2 .inv .1) (c .before .before .before .before .before .before .before .before .before .before .before .before .before .before .before .before .before .before .before .pre .1) (key-at (c .before .before .before .before .before)) (sym (c .before .is-over .ensures) ∙ not-true _ (c .if4 .taken))
+abbrev InMark : Type 0
+InMark = tie.Then4 Inv-loop2 μ-loop2 Inv-loop μ-loop Inv-search μ-search
+
+abbrev start : InEntry → tie.Start Inv-loop2 μ-loop2 Inv-loop μ-loop Inv-search μ-search
+start c = c .before .before .before .before .before .before .before
+
+abbrev entry : InKey → InEntry
+entry c = c .before .before .before .before .before .before .before
+
+abbrev key : InMark → InKey
+key c = c .before .before .before .before .before
+
+entry-at : (c : InEntry) → Here (entryForm (base .key)) (now (start c .args .room)) (c .before .before .search .e .at)
+entry-at c = entries-here _ _ _ _ _ (c .before .before .search .inv .1) (start c .pre .0) (start c .pre .1) (c .if1 .taken)
+
+key-at : (c : InKey) → Here (keyForm (base .key)) (now (start (entry c) .args .room)) (c .before .before .loop .k .at)
+key-at c = keys-here _ _ _ _ (c .before .before .loop .inv .1) (start (entry c) .pre .1) (entry-at (entry c)) (c .if3 .taken)
+
+more : (c : InMark) → eqb (marksLeft (c .before .before .loop2 .m)) 0 ≡ false
+more c = sym (c .before .is-over .ensures) ∙ not-true _ (c .if4 .taken)
+
+mark-at : (c : InMark) → Stays (now (start (entry (key c)) .args .room)) (c .before .before .loop2 .m)
+mark-at c = marks-stay _ _ _ _ (c .before .before .loop2 .inv .1) (start (entry (key c)) .pre .1) (key-at (key c)) (more c)
 
 add-read-eight : tie.Need-add-read-eight Inv-loop2 μ-loop2 Inv-loop μ-loop Inv-search μ-search
 add-read-eight c = let h = txn-room (c .before .pre .1) in omega arith
@@ -98,19 +115,25 @@ key-past-requires :
 key-past-requires c κs = key-at (c .before)
 
 loop2-holds : tie.Need-loop2-holds Inv-loop2 μ-loop2 Inv-loop μ-loop Inv-search μ-search
-loop2-holds c = (c .before .before .before .before .loop .inv .0, marks-start _ _ _ _ (c .before .before .before .before .before .before .before .before .before .before .before .before .before .of .ensures))
+loop2-holds c =
+    let k = c .before .before in
+    (k .before .before .loop .inv .0, marks-start _ _ _ _ (entry k .before .before .before .before .of .ensures))
 
 is-over-requires : tie.Need-is-over-requires Inv-loop2 μ-loop2 Inv-loop μ-loop Inv-search μ-search
 is-over-requires c κs = search needs
 
 sub-meets : tie.Need-sub-meets Inv-loop2 μ-loop2 Inv-loop μ-loop Inv-search μ-search
-sub-meets c = key-ends _ _ _ (key-at (c .before .before .before .before .before)) (c .before .before .before .key-past .ensures) .0
+sub-meets c = key-ends _ _ _ (key-at (key c)) (c .before .before .before .key-past .ensures) .0
 
 part-meets-start : tie.Need-part-meets-start Inv-loop2 μ-loop2 Inv-loop μ-loop Inv-search μ-search
-part-meets-start c = let h = key-ends _ _ _ (key-at (c .before .before .before .before .before)) (c .before .before .before .key-past .ensures) in search needs
+part-meets-start c =
+    let h = key-ends _ _ _ (key-at (key c)) (c .before .before .before .key-past .ensures) in
+    search needs
 
 part-meets-end : tie.Need-part-meets-end Inv-loop2 μ-loop2 Inv-loop μ-loop Inv-search μ-search
-part-meets-end c = let h = key-ends _ _ _ (key-at (c .before .before .before .before .before)) (c .before .before .before .key-past .ensures) in search needs
+part-meets-end c =
+    let h = key-ends _ _ _ (key-at (key c)) (c .before .before .before .key-past .ensures) in
+    search needs
 
 meets-requires : tie.Need-meets-requires Inv-loop2 μ-loop2 Inv-loop μ-loop Inv-search μ-search
 meets-requires c κs = mark-at (c .before)
@@ -123,8 +146,12 @@ loop2-less c = next-less _ _ _ (mark-at (c .before .before .before .before)) (c 
 
 loop2-again : tie.Need-loop2-again Inv-loop2 μ-loop2 Inv-loop μ-loop Inv-search μ-search
 loop2-again c =
-    let more = sym (c .before .before .before .before .before .is-over .ensures) ∙ not-true _ (c .before .before .before .before .if4 .taken) in
-    (c .before .before .before .before .before .before .loop2 .inv .0, marks-next _ _ _ _ _ _ (c .before .before .before .before .before .before .before .key-past .ensures) (c .before .before .meets .ensures) more _ (c .before .before .before .before .before .before .loop2 .inv .1) (c .before .if5 .left) (c .next .ensures))
+    let m = c .before .before .before .before in
+    let l = m .before .before .loop2 in
+    let past = m .before .before .before .key-past in (
+      l .inv .0,
+      marks-next _ _ _ _ _ _ (past .ensures) (c .before .before .meets .ensures) (more m) _ (l .inv .1) (c .before .if5 .left) (c .next .ensures),
+    )
 
 past-requires : tie.Need-past-requires Inv-loop2 μ-loop2 Inv-loop μ-loop Inv-search μ-search
 past-requires c κs = c .before .before .before .before .before .if3 .taken
@@ -136,9 +163,13 @@ loop-less c =
 
 loop-again : tie.Need-loop-again Inv-loop2 μ-loop2 Inv-loop μ-loop Inv-search μ-search
 loop-again c =
+    let l = c .before .before .before in
+    let k = l .before .before .before in
     let over = sym (c .before .before .is-over .ensures) ∙ not-false _ (c .before .if4 .left) in
-    let untracked = marks-none _ _ _ _ (c .before .before .before .loop2 .inv .1) over in
-    (c .before .before .before .loop2 .inv .0, keys-next _ _ _ _ _ _ (c .before .before .before .before .before .before .before .before .loop .inv .1) (c .before .before .before .before .before .before .if3 .taken) untracked (c .before .before .before .before .key-past .ensures) (c .past .ensures))
+    let untracked = marks-none _ _ _ _ (l .loop2 .inv .1) over in (
+      l .loop2 .inv .0,
+      keys-next _ _ _ _ _ _ (k .before .before .loop .inv .1) (k .if3 .taken) untracked (l .before .key-past .ensures) (c .past .ensures),
+    )
 
 entry-past-requires :
     tie.Need-entry-past-requires Inv-loop2 μ-loop2 Inv-loop μ-loop Inv-search μ-search
@@ -154,14 +185,17 @@ search-less c =
 
 search-again : tie.Need-search-again Inv-loop2 μ-loop2 Inv-loop μ-loop Inv-search μ-search
 search-again c =
+    let e = c .before .before .before .before in
+    let l = e .before .before .search in
+    let to = c .before .entry-past .ensures in
     ⊎-elim
     (λ w.
     let apart = keys-none _ _ _ _ (w .3 .inv .1) (w .5 .left) in
-    (w .6 ∙ w .3 .inv .0, entry-apart _ _ _ _ _ (c .before .before .before .before .before .before .search .inv .1) _ _ (c .before .before .before .before .if1 .taken) apart (c .before .entry-past .ensures) (c .past2 .ensures)))
-    (λ w. (
-      w .1 ∙ c .before .before .before .before .before .before .search .inv .0,
-      entry-early _ _ _ _ _ (c .before .before .before .before .before .before .search .inv .1) _ _ _ _ (c .before .before .before .before .before .before .before .before .before .read-eight .ensures) (c .before .before .before .read-eight2 .ensures) (c .before .before .before .before .if1 .taken) _ _ (w .0 .left) (c .before .entry-past .ensures) (c .past2 .ensures),
-    ))
+    (w .6 ∙ w .3 .inv .0, entry-apart _ _ _ _ _ (l .inv .1) _ _ (e .if1 .taken) apart to (c .past2 .ensures)))
+    (λ w.
+    let began = e .before .before .before .before .before .read-eight .ensures in
+    let committed = c .before .before .before .read-eight2 .ensures in
+    (w .1 ∙ l .inv .0, entry-early _ _ _ _ _ (l .inv .1) _ _ _ _ began committed (e .if1 .taken) _ _ (omega (arith, w .0 .left)) to (c .past2 .ensures)))
     (c .before .before .if2 .came)
 
 returns : tie.Need-returns Inv-loop2 μ-loop2 Inv-loop μ-loop Inv-search μ-search
@@ -169,10 +203,15 @@ returns c = rw (c .before .before .search .inv .0) (entries-none _ _ _ _ _ (c .b
 
 returns-2 : tie.Need-returns-2 Inv-loop2 μ-loop2 Inv-loop μ-loop Inv-search μ-search
 returns-2 c =
-    let more = sym (c .before .before .before .before .is-over .ensures) ∙ not-true _ (c .before .before .before .if4 .taken) in
-    let tracked = marks-hit _ _ _ _ _ _ (c .before .before .before .before .before .before .key-past .ensures) (c .before .meets .ensures) more (c .before .before .before .before .before .loop2 .inv .1) (c .if5 .taken) in
-    let wrote = keys-hit _ _ _ _ (c .before .before .before .before .before .before .before .before .before .before .loop .inv .1) (c .before .before .before .before .before .before .before .before .if3 .taken) tracked in
-    entries-hit _ _ _ _ _ (c .before .before .before .before .before .before .before .before .before .before .before .before .before .before .before .before .before .search .inv .1) _ _ _ _ (c .before .before .before .before .before .before .before .before .before .before .before .before .before .before .before .before .before .before .before .before .read-eight .ensures) (c .before .before .before .before .before .before .before .before .before .before .before .before .before .before .read-eight2 .ensures) (c .before .before .before .before .before .before .before .before .before .before .before .before .before .before .before .if1 .taken) (c .before .before .before .before .before .before .before .before .before .before .before .before .before .if2 .taken) wrote
+    let m = c .before .before .before in
+    let k = key m in
+    let e = entry k in
+    let began = e .before .before .before .before .before .read-eight .ensures in
+    let later = k .before .before .before .before .before in
+    let past = m .before .before .before .key-past .ensures in
+    let tracked = marks-hit _ _ _ _ _ _ past (c .before .meets .ensures) (more m) (m .before .before .loop2 .inv .1) (c .if5 .taken) in
+    let wrote = keys-hit _ _ _ _ (k .before .before .loop .inv .1) (k .if3 .taken) tracked in
+    entries-hit _ _ _ _ _ (e .before .before .search .inv .1) _ _ _ _ began (later .before .read-eight2 .ensures) (e .if1 .taken) (later .if2 .taken) wrote
 
 pub conflicts-spec : {M : Type 1} → statement M
 conflicts-spec =

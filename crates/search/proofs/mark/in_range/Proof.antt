@@ -1,6 +1,7 @@
 use borrow.Author.Needs.{needs}
 use native.Mathlib.Omega.{arith}
-use Rattle.search.proofs.MarkLaws.{start-here, end-here, spans, in-range}
+use denote.Ref.{now}
+use Rattle.search.proofs.MarkLaws.{start-here, end-here, Spans, spans, in-range}
 use Rattle.search.proofs.mark.in_range.Statement.{statement}
 use Rattle.search.proofs.mark.in_range.Tie as tie
 use Rattle.search.proofs.mark.in_range.Reads as reads
@@ -9,6 +10,10 @@ use Rattle.bounds.proofs.comparable_range.ComparableRange.contains.Reads as con
 use Rattle.bounds.proofs.comparable_range.ComparableRange.new.Reads as new-reads
 use Rattle.places.proofs.skips.bound_past.Reads as bound-past-reads
 use Rattle.search.proofs.mark.kind_at.Reads as kind-at-reads
+
+-- where both keys lie
+both : (c : tie.After-bound-past2) → Spans (now (c .before .before .before .before .args .room)) (c .before .before .before .before .args .at) (c .before .bound-past .result) (c .bound-past2 .result)
+both c = spans _ _ _ _ (c .before .before .before .before .pre) (c .before .bound-past .ensures) (c .bound-past2 .ensures)
 
 bound-past-requires : tie.Need-bound-past-requires
 bound-past-requires c κs = start-here _ _ (c .before .before .pre)
@@ -29,31 +34,34 @@ add-start-key : tie.Need-add-start-key
 add-start-key c = search needs
 
 add-end-key : tie.Need-add-end-key
-add-end-key c = let h = spans _ _ _ _ (c .before .before .before .before .before .before .before .pre) (c .before .before .before .before .bound-past .ensures) (c .before .before .before .bound-past2 .ensures) in omega arith
+add-end-key c = let h = both (c .before .before .before) in omega arith
 
 sub-contains : tie.Need-sub-contains
-sub-contains c = spans _ _ _ _ (c .before .before .before .before .before .before .before .pre) (c .before .before .before .before .bound-past .ensures) (c .before .before .before .bound-past2 .ensures) .start
+sub-contains c = both (c .before .before .before) .start
 
 part-contains-start : tie.Need-part-contains-start
-part-contains-start c = let h = spans _ _ _ _ (c .before .before .before .before .before .before .before .pre) (c .before .before .before .before .bound-past .ensures) (c .before .before .before .bound-past2 .ensures) in search needs
+part-contains-start c = let h = both (c .before .before .before) in search needs
 
 part-contains-end : tie.Need-part-contains-end
-part-contains-end c = let h = spans _ _ _ _ (c .before .before .before .before .before .before .before .pre) (c .before .before .before .before .bound-past .ensures) (c .before .before .before .bound-past2 .ensures) in search needs
+part-contains-end c = let h = both (c .before .before .before) in search needs
 
 sub-contains-2 : tie.Need-sub-contains-2
-sub-contains-2 c = spans _ _ _ _ (c .before .before .before .before .before .before .before .before .pre) (c .before .before .before .before .before .bound-past .ensures) (c .before .before .before .before .bound-past2 .ensures) .end
+sub-contains-2 c = both (c .before .before .before .before) .end
 
 part-contains-start-2 : tie.Need-part-contains-start-2
-part-contains-start-2 c = let h = spans _ _ _ _ (c .before .before .before .before .before .before .before .before .pre) (c .before .before .before .before .before .bound-past .ensures) (c .before .before .before .before .bound-past2 .ensures) in search needs
+part-contains-start-2 c = let h = both (c .before .before .before .before) in search needs
 
 part-contains-end-2 : tie.Need-part-contains-end-2
-part-contains-end-2 c = let h = spans _ _ _ _ (c .before .before .before .before .before .before .before .before .pre) (c .before .before .before .before .before .bound-past .ensures) (c .before .before .before .before .bound-past2 .ensures) in search needs
+part-contains-end-2 c = let h = both (c .before .before .before .before) in search needs
 
 contains-requires : tie.Need-contains-requires
 contains-requires c κs = search needs
 
 returns : tie.Need-returns
-returns c = in-range _ _ _ _ _ _ _ _ _ (c .before .before .before .before .before .before .before .bound-past .ensures) (c .before .before .before .before .before .before .bound-past2 .ensures) (c .before .before .before .before .before .kind-at .ensures) (c .before .before .before .before .kind-at2 .ensures) (c .before .before .before .new .ensures) (c .contains .ensures)
+returns c =
+    let k = c .before .before .before .before in
+    let ends = k .before .before in
+    in-range _ _ _ _ _ _ _ _ _ (ends .before .bound-past .ensures) (ends .bound-past2 .ensures) (k .before .kind-at .ensures) (k .kind-at2 .ensures) (c .before .before .before .new .ensures) (c .contains .ensures)
 
 pub in-range-spec : {M : Type 1} → statement M
 in-range-spec =

@@ -1,5 +1,4 @@
 use borrow.Author.Needs.{needs}
-use native.Mathlib.Omega.{arith}
 use Rattle.search.proofs.MarkLaws.{key-ends, same-key}
 use Rattle.search.proofs.mark.same_key.Statement.{statement}
 use Rattle.search.proofs.mark.same_key.Tie as tie

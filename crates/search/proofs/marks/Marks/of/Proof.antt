@@ -26,7 +26,9 @@ of-list-requires-3 : tie.Need-of-list-requires-3
 of-list-requires-3 c κs = ranges-room (ranges-here _ _ _ _ (c .before .before .before .before .before .pre) (c .before .before .before .set-past .ensures) (c .before .before .set-past2 .ensures))
 
 returns : tie.Need-returns
-returns c = tracked _ _ _ _ _ _ _ (c .before .before .before .before .set-past .ensures) (c .before .before .before .set-past2 .ensures) (c .before .before .of-list .ensures) (c .before .of-list2 .ensures) (c .of-list3 .ensures)
+returns c =
+    let ends = c .before .before .before in
+    tracked _ _ _ _ _ _ _ (ends .before .set-past .ensures) (ends .set-past2 .ensures) (c .before .before .of-list .ensures) (c .before .of-list2 .ensures) (c .of-list3 .ensures)
 
 pub of-spec : {M : Type 1} → statement M
 of-spec =
