@@ -4,3 +4,4 @@ pub mod TrackLaws
 pub mod ChangeLaws
 pub mod InsideLaws
 pub mod SightLaws
+pub mod SeenLaws

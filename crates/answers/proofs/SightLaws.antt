@@ -23,7 +23,7 @@ use Rattle.layout.proofs.SizeLaws.{head-length, fits-size}
 use Rattle.layout.proofs.LoadLaws.{Held, load-read, held}
 use Rattle.edits.proofs.LaidLaws.{Laid, entriesOf, activeOf, laid-start}
 
-ids-long : (n : ℕ) (ts : List Txn) → All (TxnOk base n) ts → All (λ t. length (t .id) ≡ 16) ts
+pub ids-long : (n : ℕ) (ts : List Txn) → All (TxnOk base n) ts → All (λ t. length (t .id) ≡ 16) ts
 ids-long n [] a = tt
 ids-long n (t ∷ ts) a = (a .0 .id-length, ids-long n ts (a .1))
 

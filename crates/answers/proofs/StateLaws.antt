@@ -46,18 +46,20 @@ module _ (L : Ceilings) (s : State) (i : Bytes) where
   unfolding answer
   begin-full h e k = rw (is-id i h, e, fits-not L begun (λ f. omega (arith, f .active, put-new-length (newTxn i (s .last)) (s .active) e)))
 
-  pub begin-done : length i ≡ 16 → find i (s .active) ≡ none → length (s .active) < L .active → Fits L s → answer L s (begin i) ≡ done (s .last) begun
-  unfolding answer sum
-  begin-done h e k f =
+  pub begin-fits : find i (s .active) ≡ none → length (s .active) < L .active → Fits L s → Fits L begun
+  unfolding sum
+  begin-fits e k f =
       let t : Txn = newTxn i (s .last) in
-      let g : Fits L begun =
       record {
         active = omega (arith, put-new-length t (s .active) e);
         entries = f .entries;
         marks = omega (arith, f .marks, put-new-sum txnMarks t (s .active) e);
         bytes = omega (arith, f .bytes, put-new-sum txnBytes t (s .active) e);
-      } in
-      rw (is-id i h, e, fits-means L begun .1 g)
+      }
+
+  pub begin-done : length i ≡ 16 → find i (s .active) ≡ none → length (s .active) < L .active → Fits L s → answer L s (begin i) ≡ done (s .last) begun
+  unfolding answer
+  begin-done h e k f = rw (is-id i h, e, fits-means L begun .1 (begin-fits e k f))
 
   pub check-malformed : (length i ≡ 16 → ⊥) → answer L s (check i) ≡ refused malformed
   unfolding answer

@@ -11,7 +11,9 @@ use Rattle.machine.specs.State.{State, Txn, Entry, base}
 use Rattle.machine.specs.Serve.{state}
 use Rattle.codec.specs.Codec.{writeRun}
 use Rattle.codec.specs.Formats.{number, raw, bind, only, via, run}
+use Rattle.codec.specs.Places.{Stands}
 use Rattle.codec.proofs.NumberLaws.{length-number}
+use Rattle.codec.proofs.RecordLaws.{written-stands}
 use Rattle.moves.specs.Splices.{Spliced, usedAfter}
 use Rattle.moves.proofs.SpliceLaws.{replaces, written-over, untouched}
 use Rattle.layout.specs.Records.{headForm, entryForm, txnForm, entriesForm, activeForm, stamp}
@@ -78,6 +80,17 @@ module _ {s0 s : List ℕ} {used l n k : ℕ} {es ts : List ℕ} (v : Laid s0 s 
       let u : usedAfter used w (number w .write x) ≡ used = rw (length-number w x) (omega arith) in
       let r = laid-splice p (number w .write y) q l' n' k' es ts (over-spliced w s s' used at x e h inside) a b ea (sym (length-number w y)) (rw u (v .short)) in
       rw u at r
+
+  -- the last number, where it is read
+  pub laid-number : l < 256 ^ 8 → Stands (number 8) s 8 l 16
+  unfolding number
+  laid-number h =
+      let q : List ℕ = number 2 .write n ++ (number 2 .write k ++ (es ++ ts)) in
+      let e : s ≡ number 8 .write stamp ++ (number 8 .write l ++ (q ++ drop used s)) = sym (take-append-drop used s) ∙ rw (v .bytes) (simp append-assoc) in
+      let a : length (number 8 .write stamp) ≡ 8 = length-number 8 stamp in
+      let b : length (number 8 .write stamp) + length (number 8 .write l) ≡ 16 = rw (a, length-number 8 l) in
+      let r = written-stands (number 8) s (number 8 .write stamp) (q ++ drop used s) l h e in
+      subst (λ (x : ℕ). Stands (number 8) s x l 16) a (subst (Stands (number 8) s (length (number 8 .write stamp)) l) b r)
 
   pub laid-last : {s' : List ℕ} (x : ℕ) → s' ≡ paste s 8 (number 8 .write x) 8 → Laid s0 s' used x n k es ts
   laid-last x e =

@@ -1,0 +1,132 @@
+// A fresh room, a transaction's begin, and the calls that only look: check and minimum.
+ghost use mathlib.Core.Path.{_≡_};
+ghost use Rattle.machine.specs.Calls.{fresh, on, begin, check, minimum};
+ghost use Rattle.layout.specs.Rooms.{Served};
+ghost use Rattle.room.specs.Views.{Seen};
+use answers::Answer;
+use codec::numbers::write_two;
+use edits::put_txn;
+use edits::write_fresh;
+use oracle::oracle::last_committed_seq;
+use places::finds::Place;
+use places::finds::find_txn;
+use places::finds::least_start;
+use room::View;
+use room::ceilings::ACTIVE_LIMIT;
+use room::ceilings::SIZE;
+use search::conflicts;
+
+// An id's length.
+const ID: usize = 16;
+
+// Where the entries begin.
+const ENTRIES: usize = 20;
+
+// Where the count of the active ones stands.
+const ACTIVE: usize = 18;
+
+// Makes a room fresh, whatever it held.
+pub fn make_fresh(room: &mut [u8], last: u64) -> Answer
+    ensures { λ r. ⌜ Served (now (room .entry)) (fresh last) (r .status) (r .value) (now (room .exit)) ⌝ }
+{
+    if room.len() < SIZE {
+        return Answer {
+            status: 7,
+            value: 0,
+        };
+    }
+    write_fresh(room, last);
+    Answer {
+        status: 0,
+        value: last,
+    }
+}
+
+// Begins a transaction at the last committed number.
+pub fn begin(room: &mut [u8], v: View, id: &[u8]) -> Answer
+    requires { ⌜ Seen (now room) v ⌝ }
+    ensures { λ r. ⌜ Served (now (room .entry)) (on (begin (now (id .entry)))) (r .status) (r .value) (now (room .exit)) ⌝ }
+{
+    if id.len() != ID {
+        return Answer {
+            status: 2,
+            value: 0,
+        };
+    }
+    let middle = v.middle;
+    let active = v.active;
+    let used = v.used;
+    match find_txn(room, middle, active, id) {
+        Place::Here { at: _, end: _ } => Answer {
+            status: 3,
+            value: 0,
+        },
+        Place::Before(at) => {
+            if ACTIVE_LIMIT <= active {
+                return Answer {
+                    status: 6,
+                    value: 0,
+                };
+            }
+            let start = last_committed_seq(room);
+            put_txn(room, used, at, id, start);
+            write_two(room, ACTIVE, active + 1);
+            Answer {
+                status: 0,
+                value: start,
+            }
+        }
+    }
+}
+
+// Says whether an active transaction conflicts with an entry.
+pub fn check(room: &[u8], v: View, id: &[u8]) -> Answer
+    requires { ⌜ Seen (now room) v ⌝ }
+    ensures { λ r. ⌜ Served (now (room .entry)) (on (check (now (id .entry)))) (r .status) (r .value) (now (room .entry)) ⌝ }
+{
+    if id.len() != ID {
+        return Answer {
+            status: 2,
+            value: 0,
+        };
+    }
+    let middle = v.middle;
+    let active = v.active;
+    let entries = v.entries;
+    match find_txn(room, middle, active, id) {
+        Place::Before(_) => Answer {
+            status: 1,
+            value: 0,
+        },
+        Place::Here { at, end: _ } => {
+            if conflicts(room, ENTRIES, entries, at) {
+                return Answer {
+                    status: 0,
+                    value: 1,
+                };
+            }
+            Answer {
+                status: 0,
+                value: 0,
+            }
+        }
+    }
+}
+
+// The smallest start of an active transaction.
+pub fn minimum(room: &[u8], v: View) -> Answer
+    requires { ⌜ Seen (now room) v ⌝ }
+    ensures { λ r. ⌜ Served (now (room .entry)) (on minimum) (r .status) (r .value) (now (room .entry)) ⌝ }
+{
+    let middle = v.middle;
+    let active = v.active;
+    let last = v.last;
+    if active == 0 {
+        return Answer {
+            status: 1,
+            value: 0,
+        };
+    }
+    let value = least_start(room, middle, active, last);
+    Answer { status: 0, value }
+}
