@@ -77,17 +77,12 @@ fn entries_end(room: &[u8], at: usize, n: usize) -> Walked
     requires { ⌜ at ≤ length (now room) ⌝ }
     ensures { λ r. ⌜ Walks (runOf anEntry anyOrder n) (now (room .entry)) at r ⌝ }
 {
-    let mut t = Tally {
-        end: at,
-        marks: 0,
-        bytes: 0,
-        high: 0,
-    };
+    let mut t = Tally::start(at);
     let mut left = n;
     while 0 < left {
         match walk::record::entry_end(room, t.end) {
             Walked::Ends(u) => {
-                t = walk::tally::joined(t, u);
+                t = t.joined(u);
                 left -= 1;
             }
             Walked::Cut => return Walked::Cut,
@@ -114,12 +109,7 @@ fn active_end(room: &[u8], at: usize, n: usize) -> Walked
     requires { ⌜ at ≤ length (now room) ⌝ }
     ensures { λ r. ⌜ Walks (runOf aTxn belowId n) (now (room .entry)) at r ⌝ }
 {
-    let mut t = Tally {
-        end: at,
-        marks: 0,
-        bytes: 0,
-        high: 0,
-    };
+    let mut t = Tally::start(at);
     let mut p = at;
     let mut left = n;
     while 0 < left {
@@ -129,7 +119,7 @@ fn active_end(room: &[u8], at: usize, n: usize) -> Walked
                     return Walked::Cut;
                 }
                 p = t.end;
-                t = walk::tally::joined(t, u);
+                t = t.joined(u);
                 left -= 1;
             }
             Walked::Cut => return Walked::Cut,
@@ -177,7 +167,7 @@ pub fn open(room: &[u8]) -> Opened
             Walked::Ends(t) => match active_end(room, t.end, top.active) {
                 Walked::Cut => Opened::Bad,
                 Walked::Ends(u) => {
-                    let all = walk::tally::joined(t, u);
+                    let all = t.joined(u);
                     if sound(top, all) {
                         return Opened::Of(View {
                             last: top.last,

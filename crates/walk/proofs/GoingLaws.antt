@@ -24,7 +24,7 @@ use Rattle.layout.specs.Keys.{anyOrder, below}
 use Rattle.layout.specs.Places.{Part}
 use Rattle.layout.specs.States.{highest}
 use Rattle.walk.specs.declared.tally.Tally.{Tally}
-use Rattle.walk.specs.Counts.{Counted, runOf, plus}
+use Rattle.walk.specs.Counts.{Counted, runOf, emptyTally, plus}
 use Rattle.walk.specs.Walks.{Got, Missing, Apart}
 
 max-assoc : (a b c : ℕ) → max a (max b c) ≡ max (max a b) c
@@ -50,7 +50,7 @@ module _ {A : Type 0} (K : Counted A) (before : A → A → Bool) where
     pub fits : at + t .marks + t .bytes ≤ t .end
     pub inside : t .end ≤ length s
 
-  pub going-start : (s : List ℕ) (at n : ℕ) → at ≤ length s → Going s at n none (record { end = at; marks = 0; bytes = 0; high = 0 }) n
+  pub going-start : (s : List ℕ) (at n : ℕ) → at ≤ length s → Going s at n none (emptyTally at) n
   unfolding sum highest
   going-start s at n h = record { walk = walk-start (K .form) before s at n; marks = refl; bytes = refl; high = refl; fits = omega arith; inside = h }
 
@@ -104,8 +104,8 @@ module _ {A : Type 0} (K : Counted A) where
   any-fine none a = refl
   any-fine (some b) a = refl
 
-  pub loose-start : (s : List ℕ) (at n : ℕ) → at ≤ length s → Loose s at n (record { end = at; marks = 0; bytes = 0; high = 0 }) n
-  loose-start s at n h = record { prev = none; going = going-start K anyOrder s at n h }
+  pub loose-start : (s : List ℕ) (at n : ℕ) → at ≤ length s → (t : Tally) → t ≡ emptyTally at → Loose s at n t n
+  loose-start s at n h t e = record { prev = none; going = rw e (going-start K anyOrder s at n h) }
 
   module _ {s : List ℕ} {at n : ℕ} {t : Tally} {left : ℕ} (v : Loose s at n t left) where
     pub loose-next : 0 < left → {u : Tally} → Got K s (t .end) u → (t' : Tally) → t' ≡ plus t u → Loose s at n t' (left - 1)
@@ -140,8 +140,8 @@ module _ {A : Type 0} (K : Counted A) (label : A → Bytes) (labelAt : List ℕ 
     pub going : Going K ascending s at n prev t left
     pub behind : Behind s p (t .end) prev
 
-  pub ordered-start : (s : List ℕ) (at n : ℕ) → at ≤ length s → Ordered s at n (record { end = at; marks = 0; bytes = 0; high = 0 }) at n
-  ordered-start s at n h = record { prev = none; going = going-start K ascending s at n h; behind = refl }
+  pub ordered-start : (s : List ℕ) (at n : ℕ) → at ≤ length s → (t : Tally) → t ≡ emptyTally at → Ordered s at n t at n
+  ordered-start s at n h t e = record { prev = none; going = rw e (going-start K ascending s at n h); behind = rw e refl }
 
   follows-is : 0 < k → (s : List ℕ) (p e next : ℕ) (prev : Option A) (a : A) → Behind s p e prev → label a ≡ labelAt s e next
       → fine (K .form) ascending prev a ≡ (eqb p e || below (labelAt s p e) (labelAt s e next))

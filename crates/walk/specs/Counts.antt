@@ -43,5 +43,8 @@ aTxn = record { form = txnForm keyLimit; marks = txnMarks; bytes = txnBytes; hig
 abbrev pub runOf : {A : Type 0} → Counted A → (A → A → Bool) → ℕ → Counted (List A)
 runOf K before n = record { form = run (K .form) before n; marks = sum (K .marks); bytes = sum (K .bytes); high = highest (K .high) }
 
+abbrev pub emptyTally : ℕ → Tally
+emptyTally at = record { end = at; marks = 0; bytes = 0; high = 0 }
+
 abbrev pub plus : Tally → Tally → Tally
 plus t u = record { end = u .end; marks = t .marks + u .marks; bytes = t .bytes + u .bytes; high = max (t .high) (u .high) }

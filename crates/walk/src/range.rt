@@ -84,17 +84,12 @@ fn run_end(room: &[u8], at: usize, n: usize) -> Walked
     requires { ⌜ at ≤ length (now room) ⌝ }
     ensures { λ r. ⌜ Walks (runOf aRange anyOrder n) (now (room .entry)) at r ⌝ }
 {
-    let mut t = Tally {
-        end: at,
-        marks: 0,
-        bytes: 0,
-        high: 0,
-    };
+    let mut t = Tally::start(at);
     let mut left = n;
     while 0 < left {
         match range_end(room, t.end) {
             Walked::Ends(u) => {
-                t = crate::tally::joined(t, u);
+                t = t.joined(u);
                 left -= 1;
             }
             Walked::Cut => return Walked::Cut,

@@ -41,8 +41,8 @@ pub fn txn_end(room: &[u8], at: usize) -> Walked
             Walked::Ends(r) => match crate::range::ranges_end(room, r.end) {
                 Walked::Cut => Walked::Cut,
                 Walked::Ends(x) => {
-                    let sets = crate::tally::joined(w, r);
-                    let t = crate::tally::joined(sets, x);
+                    let sets = w.joined(r);
+                    let t = sets.joined(x);
                     Walked::Ends(Tally {
                         end: t.end,
                         marks: t.marks,

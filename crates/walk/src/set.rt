@@ -50,12 +50,7 @@ fn keys_end(room: &[u8], at: usize, n: usize) -> Walked
     requires { ⌜ at ≤ length (now room) ⌝ }
     ensures { λ r. ⌜ Walks (runOf (aKey keyLimit) below n) (now (room .entry)) at r ⌝ }
 {
-    let mut t = Tally {
-        end: at,
-        marks: 0,
-        bytes: 0,
-        high: 0,
-    };
+    let mut t = Tally::start(at);
     let mut p = at;
     let mut left = n;
     while 0 < left {
@@ -65,7 +60,7 @@ fn keys_end(room: &[u8], at: usize, n: usize) -> Walked
                     return Walked::Cut;
                 }
                 p = t.end;
-                t = crate::tally::joined(t, u);
+                t = t.joined(u);
                 left -= 1;
             }
             Walked::Cut => return Walked::Cut,

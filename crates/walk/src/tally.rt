@@ -1,6 +1,6 @@
 ghost use mathlib.Core.Path.{_≡_};
 ghost use Prim.Native.Nat.{_+_, _≤_, max};
-ghost use Rattle.walk.specs.Counts.{plus};
+ghost use Rattle.walk.specs.Counts.{emptyTally, plus};
 
 // What a walk counts up to a place: marks, key bytes, and the highest sequence or start.
 pub struct Tally {
@@ -22,19 +22,33 @@ fn larger(a: u64, b: u64) -> u64
     if a < b { b } else { a }
 }
 
-// What is counted up to a place with what the record at that place counts.
-pub fn joined(t: Tally, u: Tally) -> Tally
-    requires { ⌜ (t .marks + t .bytes ≤ t .end) × (t .end + u .marks + u .bytes ≤ u .end) ⌝ }
-    ensures { λ r. ⌜ r ≡ plus t u ⌝ }
-{
-    let end = u.end;
-    let marks = t.marks + u.marks;
-    let bytes = t.bytes + u.bytes;
-    let high = larger(t.high, u.high);
-    Tally {
-        end,
-        marks,
-        bytes,
-        high,
+impl Tally {
+    // Nothing is counted yet.
+    pub fn start(at: usize) -> Self
+        ensures { λ r. ⌜ r ≡ emptyTally at ⌝ }
+    {
+        Tally {
+            end: at,
+            marks: 0,
+            bytes: 0,
+            high: 0,
+        }
+    }
+
+    // What is counted up to a place with what the record at that place counts.
+    pub fn joined(self, u: Tally) -> Self
+        requires { ⌜ (self .marks + self .bytes ≤ self .end) × (self .end + u .marks + u .bytes ≤ u .end) ⌝ }
+        ensures { λ r. ⌜ r ≡ plus self u ⌝ }
+    {
+        let end = u.end;
+        let marks = self.marks + u.marks;
+        let bytes = self.bytes + u.bytes;
+        let high = larger(self.high, u.high);
+        Tally {
+            end,
+            marks,
+            bytes,
+            high,
+        }
     }
 }

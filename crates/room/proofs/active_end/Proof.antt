@@ -17,11 +17,14 @@ abbrev μ-loop : tie.MeasureT-loop
 μ-loop room at n t₀ p₀ left₀ t p left = left
 
 -- the record that was read in this turn
-seen : (c : tie.After-u Inv-loop μ-loop) → Got aTxn (now (c .before .before .before .before .before .before .args .room)) (c .before .before .before .before .loop .t .end) (c .u .given .0 .0)
+seen : (c : tie.After-u Inv-loop μ-loop) → Got aTxn (now (c .before .before .before .before .before .before .before .args .room)) (c .before .before .before .before .loop .t .end) (c .u .given .0 .0)
 seen c = rw (c .u .given .1) at (c .before .before .txn-end .ensures)
 
+start-requires : tie.Need-start-requires Inv-loop μ-loop
+start-requires c κs = search needs
+
 loop-holds : tie.Need-loop-holds Inv-loop μ-loop
-loop-holds c = ordered-start aTxn idOf idAt 16 _ _ _ (omega arith)
+loop-holds c = ordered-start aTxn idOf idAt 16 _ _ _ (omega arith) _ (c .start .ensures)
 
 txn-end-requires : tie.Need-txn-end-requires Inv-loop μ-loop
 txn-end-requires c κs = c .before .loop .inv .going .inside
@@ -62,6 +65,7 @@ active-end-spec =
     (tie.spec
     Inv-loop
     μ-loop
+    start-requires
     loop-holds
     txn-end-requires
     enum-known-u

@@ -18,11 +18,14 @@ abbrev μ-loop : tie.MeasureT-loop
 μ-loop room at n t₀ p₀ left₀ t p left = left
 
 -- the record that was read in this turn
-seen : (c : tie.After-u Inv-loop μ-loop) → Got (aKey keyLimit) (now (c .before .before .before .before .before .before .args .room)) (c .before .before .before .before .loop .t .end) (c .u .given .0 .0)
+seen : (c : tie.After-u Inv-loop μ-loop) → Got (aKey keyLimit) (now (c .before .before .before .before .before .before .before .args .room)) (c .before .before .before .before .loop .t .end) (c .u .given .0 .0)
 seen c = rw (c .u .given .1) at (c .before .before .key-end .ensures)
 
+start-requires : tie.Need-start-requires Inv-loop μ-loop
+start-requires c κs = search needs
+
 loop-holds : tie.Need-loop-holds Inv-loop μ-loop
-loop-holds c = ordered-start (aKey keyLimit) itself keyAt 2 _ _ _ (omega arith)
+loop-holds c = ordered-start (aKey keyLimit) itself keyAt 2 _ _ _ (omega arith) _ (c .start .ensures)
 
 key-end-requires : tie.Need-key-end-requires Inv-loop μ-loop
 key-end-requires c κs = c .before .loop .inv .going .inside
@@ -63,6 +66,7 @@ keys-end-spec =
     (tie.spec
     Inv-loop
     μ-loop
+    start-requires
     loop-holds
     key-end-requires
     enum-known-u

@@ -1,6 +1,6 @@
 use borrow.Author.Needs.{needs}
-use Rattle.walk.proofs.tally.joined.Statement.{statement}
-use Rattle.walk.proofs.tally.joined.Tie as tie
+use Rattle.walk.proofs.tally.Tally.joined.Statement.{statement}
+use Rattle.walk.proofs.tally.Tally.joined.Tie as tie
 
 add-marks : tie.Need-add-marks
 add-marks c = search needs
