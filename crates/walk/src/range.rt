@@ -66,10 +66,11 @@ fn range_end(room: &[u8], at: usize) -> Walked
                 let b = m + 3;
                 let range = ComparableRange::new(start, end);
                 if range.non_empty(&room[a..m], &room[b..e]) {
+                    let bytes = m - a + (e - b);
                     return Walked::Ends(Tally {
                         end: e,
                         marks: 1,
-                        bytes: m - a + (e - b),
+                        bytes,
                         high: 0,
                     });
                 }

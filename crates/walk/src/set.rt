@@ -24,8 +24,9 @@ pub fn key_end(room: &[u8], at: usize, limit: usize) -> Walked
     if room.len() - at - 2 < n {
         return Walked::Cut;
     }
+    let end = at + 2 + n;
     Walked::Ends(Tally {
-        end: at + 2 + n,
+        end,
         marks: 1,
         bytes: n,
         high: 0,

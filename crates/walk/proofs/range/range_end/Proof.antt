@@ -62,14 +62,14 @@ part-non-empty-end-2 c = omega (arith, second (c .before .before .before) .part 
 non-empty-requires : tie.Need-non-empty-requires
 non-empty-requires c κs = search needs
 
-sub-t23 : tie.Need-sub-t23
-sub-t23 c = first (c .before .before .before .before .before .before .before .before .before .before) .far
+sub-bytes : tie.Need-sub-bytes
+sub-bytes c = first (c .before .before .before .before .before .before .before .before .before .before) .far
 
-sub-t24 : tie.Need-sub-t24
-sub-t24 c = second (c .before .before .before .before .before .before) .far
+sub-bytes-2 : tie.Need-sub-bytes-2
+sub-bytes-2 c = second (c .before .before .before .before .before .before) .far
 
-add-t25 : tie.Need-add-t25
-add-t25 c = search needs
+add-bytes : tie.Need-add-bytes
+add-bytes c = search needs
 
 returns : tie.Need-returns
 returns c = range-got (first (c .before .before .before .before .before .before .before .before .before .before)) (second (c .before .before .before .before .before .before)) (judged (first (c .before .before .before .before .before .before .before .before .before .before)) (second (c .before .before .before .before .before .before)) _ _ (c .before .before .before .before .new .ensures) (sym (c .before .non-empty .ensures) ∙ c .if1 .taken))
@@ -103,9 +103,9 @@ range-end-spec =
     part-non-empty-start-2
     part-non-empty-end-2
     non-empty-requires
-    sub-t23
-    sub-t24
-    add-t25
+    sub-bytes
+    sub-bytes-2
+    add-bytes
     returns
     returns-2
     returns-3

@@ -25,11 +25,11 @@ sub-if3-2 c = search needs
 returns-3 : tie.Need-returns-3
 returns-3 c = key-cut _ _ _ _ (c .before .before .read-two .ensures) (c .before .if2 .left) (c .if3 .taken)
 
-add-t5 : tie.Need-add-t5
-add-t5 c = search needs
+add-end : tie.Need-add-end
+add-end c = search needs
 
-add-t6 : tie.Need-add-t6
-add-t6 c = search needs
+add-end-2 : tie.Need-add-end-2
+add-end-2 c = search needs
 
 returns-4 : tie.Need-returns-4
 returns-4 c = key-got _ _ _ _ (c .before .before .read-two .ensures) (c .before .if2 .left) (omega arith)
@@ -45,6 +45,6 @@ key-end-spec =
     sub-if3
     sub-if3-2
     returns-3
-    add-t5
-    add-t6
+    add-end
+    add-end-2
     returns-4)
