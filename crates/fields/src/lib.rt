@@ -8,11 +8,11 @@ use keys::KEY_LIMIT;
 
 const KEY: u8 = 0x4b;
 
-const UNBOUNDED: u8 = 0x10;
+pub const UNBOUNDED: u8 = 0x10;
 
-const INCLUDED: u8 = 0x11;
+pub const INCLUDED: u8 = 0x11;
 
-const EXCLUDED: u8 = 0x12;
+pub const EXCLUDED: u8 = 0x12;
 
 // A field's tag and length take this many bytes.
 const HEAD: usize = 3;

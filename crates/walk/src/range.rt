@@ -8,13 +8,10 @@ use crate::tally::Tally;
 use crate::tally::Walked;
 use bounds::comparable_range::ComparableRange;
 use bounds::kind::Kind;
+use fields::EXCLUDED;
+use fields::INCLUDED;
+use fields::UNBOUNDED;
 use keys::KEY_LIMIT;
-
-const UNBOUNDED: u8 = 0x10;
-
-const INCLUDED: u8 = 0x11;
-
-const EXCLUDED: u8 = 0x12;
 
 // The bound at a place: its kind, and where it ends.
 enum BoundAt {
