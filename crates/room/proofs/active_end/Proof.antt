@@ -1,12 +1,12 @@
-use Rattle.walk.proofs.GoingLaws.{Ordered, ascending, ordered-start, ordered-apart, ordered-next, ordered-unfit, ordered-cut, ordered-end, going-join}
-use Rattle.walk.proofs.EntryLaws.{idOf, idAt, txn-labelled}
-use Rattle.walk.specs.Walks.{Got}
-use Rattle.walk.specs.Counts.{aTxn}
-use denote.Ref.{now}
+use mathlib.Core.Path.{sym, _∙_}
+use native.Mathlib.Omega.{arith}
 use borrow.Author.Tests.{not-true, not-false}
 use borrow.Author.Needs.{needs}
-use native.Mathlib.Omega.{arith}
-use mathlib.Core.Path.{sym, _∙_}
+use denote.Ref.{now}
+use Rattle.walk.specs.Walks.{Got}
+use Rattle.walk.specs.Counts.{aTxn}
+use Rattle.walk.proofs.GoingLaws.{Ordered, ascending, ordered-start, ordered-apart, ordered-next, ordered-unfit, ordered-cut, ordered-end, going-join}
+use Rattle.walk.proofs.EntryLaws.{idOf, idAt, txn-labelled}
 use Rattle.room.proofs.active_end.Statement.{statement}
 use Rattle.room.proofs.active_end.Tie as tie
 

@@ -1,10 +1,10 @@
-use Rattle.walk.proofs.GoingLaws.{Loose, loose-start, loose-next, loose-cut, loose-end, going-join}
+use native.Mathlib.Omega.{arith}
+use borrow.Author.Needs.{needs}
+use denote.Ref.{now}
+use Rattle.layout.specs.Keys.{anyOrder}
 use Rattle.walk.specs.Walks.{Got}
 use Rattle.walk.specs.Counts.{anEntry}
-use Rattle.layout.specs.Keys.{anyOrder}
-use denote.Ref.{now}
-use borrow.Author.Needs.{needs}
-use native.Mathlib.Omega.{arith}
+use Rattle.walk.proofs.GoingLaws.{Loose, loose-start, loose-next, loose-cut, loose-end, going-join}
 use Rattle.room.proofs.entries_end.Statement.{statement}
 use Rattle.room.proofs.entries_end.Tie as tie
 

@@ -1,6 +1,6 @@
-use Rattle.room.proofs.HeadLaws.{head-short, head-other, head-is}
 use native.Mathlib.Omega.{arith}
 use borrow.Author.Needs.{needs}
+use Rattle.room.proofs.HeadLaws.{head-short, head-other, head-is}
 use Rattle.room.proofs.head.Statement.{statement}
 use Rattle.room.proofs.head.Tie as tie
 

@@ -1,7 +1,7 @@
-use Rattle.room.proofs.HeadLaws.{ids-follow}
-use borrow.Author.Tests.{eq-eqb}
 use native.Mathlib.Omega.{arith}
+use borrow.Author.Tests.{eq-eqb}
 use borrow.Author.Needs.{needs}
+use Rattle.room.proofs.HeadLaws.{ids-follow}
 use Rattle.room.proofs.id_follows.Statement.{statement}
 use Rattle.room.proofs.id_follows.Tie as tie
 

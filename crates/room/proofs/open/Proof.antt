@@ -1,13 +1,13 @@
-use Rattle.room.proofs.OpenLaws.{too-small, no-head, no-entries, no-active, not-sound, seen}
-use Rattle.room.specs.Views.{HeadIs}
-use Rattle.walk.proofs.GoingLaws.{can-join}
-use Rattle.walk.specs.Walks.{Got}
-use Rattle.walk.specs.Counts.{anEntry, aTxn, runOf}
-use Rattle.layout.specs.Records.{belowId}
-use Rattle.layout.specs.Keys.{anyOrder}
-use denote.Ref.{now}
 use mathlib.Core.Path.{sym, _∙_}
 use borrow.Author.Needs.{needs}
+use denote.Ref.{now}
+use Rattle.layout.specs.Records.{belowId}
+use Rattle.layout.specs.Keys.{anyOrder}
+use Rattle.walk.specs.Walks.{Got}
+use Rattle.walk.specs.Counts.{anEntry, aTxn, runOf}
+use Rattle.walk.proofs.GoingLaws.{can-join}
+use Rattle.room.specs.Views.{HeadIs}
+use Rattle.room.proofs.OpenLaws.{too-small, no-head, no-entries, no-active, not-sound, seen}
 use Rattle.room.proofs.open.Statement.{statement}
 use Rattle.room.proofs.open.Tie as tie
 

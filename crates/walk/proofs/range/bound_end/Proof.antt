@@ -1,8 +1,8 @@
+use mathlib.Core.Path.{refl}
+use native.Mathlib.Omega.{arith}
+use borrow.Author.Needs.{needs}
 use denote.Ref.{now}
 use Rattle.walk.proofs.RangeLaws.{bound-short, tag-unknown, unbounded-ends, included-ends, excluded-ends}
-use native.Mathlib.Omega.{arith}
-use mathlib.Core.Path.{refl}
-use borrow.Author.Needs.{needs}
 use Rattle.walk.proofs.range.bound_end.Statement.{statement}
 use Rattle.walk.proofs.range.bound_end.Tie as tie
 

@@ -1,9 +1,9 @@
-use Rattle.walk.proofs.RangeLaws.{no-start, no-end, judged, range-empty, range-got}
-use Rattle.walk.specs.Walks.{BoundEnds}
-use denote.Ref.{now}
-use native.Mathlib.Omega.{arith}
 use mathlib.Core.Path.{sym, _∙_}
+use native.Mathlib.Omega.{arith}
 use borrow.Author.Needs.{needs}
+use denote.Ref.{now}
+use Rattle.walk.specs.Walks.{BoundEnds}
+use Rattle.walk.proofs.RangeLaws.{no-start, no-end, judged, range-empty, range-got}
 use Rattle.walk.proofs.range.range_end.Statement.{statement}
 use Rattle.walk.proofs.range.range_end.Tie as tie
 

@@ -1,5 +1,5 @@
-use Rattle.walk.proofs.RangeLaws.{ranges-short, ranges-ends}
 use borrow.Author.Needs.{needs}
+use Rattle.walk.proofs.RangeLaws.{ranges-short, ranges-ends}
 use Rattle.walk.proofs.range.ranges_end.Statement.{statement}
 use Rattle.walk.proofs.range.ranges_end.Tie as tie
 

@@ -1,10 +1,10 @@
-use Rattle.walk.proofs.GoingLaws.{Loose, loose-start, loose-next, loose-cut, loose-end, going-join}
+use native.Mathlib.Omega.{arith}
+use borrow.Author.Needs.{needs}
+use denote.Ref.{now}
+use Rattle.layout.specs.Keys.{anyOrder}
 use Rattle.walk.specs.Walks.{Got}
 use Rattle.walk.specs.Counts.{aRange}
-use Rattle.layout.specs.Keys.{anyOrder}
-use denote.Ref.{now}
-use borrow.Author.Needs.{needs}
-use native.Mathlib.Omega.{arith}
+use Rattle.walk.proofs.GoingLaws.{Loose, loose-start, loose-next, loose-cut, loose-end, going-join}
 use Rattle.walk.proofs.range.run_end.Statement.{statement}
 use Rattle.walk.proofs.range.run_end.Tie as tie
 

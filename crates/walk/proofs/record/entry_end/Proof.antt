@@ -1,5 +1,5 @@
-use Rattle.walk.proofs.EntryLaws.{entry-short, entry-cut, entry-got}
 use borrow.Author.Needs.{needs}
+use Rattle.walk.proofs.EntryLaws.{entry-short, entry-cut, entry-got}
 use Rattle.walk.proofs.record.entry_end.Statement.{statement}
 use Rattle.walk.proofs.record.entry_end.Tie as tie
 

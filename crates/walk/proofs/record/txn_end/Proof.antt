@@ -1,11 +1,11 @@
-use Rattle.walk.proofs.EntryLaws.{txn-short, no-writes, no-reads, no-ranges, join-ranges, txn-got}
-use Rattle.walk.proofs.GoingLaws.{can-join}
+use Prim.Native.Nat.{_+_}
+use native.Mathlib.Omega.{arith}
+use borrow.Author.Needs.{needs}
+use denote.Ref.{now}
 use Rattle.walk.specs.Walks.{Got}
 use Rattle.walk.specs.Counts.{aSet, someRanges}
-use denote.Ref.{now}
-use native.Mathlib.Omega.{arith}
-use Prim.Native.Nat.{_+_}
-use borrow.Author.Needs.{needs}
+use Rattle.walk.proofs.EntryLaws.{txn-short, no-writes, no-reads, no-ranges, join-ranges, txn-got}
+use Rattle.walk.proofs.GoingLaws.{can-join}
 use Rattle.walk.proofs.record.txn_end.Statement.{statement}
 use Rattle.walk.proofs.record.txn_end.Tie as tie
 

@@ -1,6 +1,6 @@
-use Rattle.walk.proofs.SetLaws.{key-short, key-long, key-cut, key-got}
 use native.Mathlib.Omega.{arith}
 use borrow.Author.Needs.{needs}
+use Rattle.walk.proofs.SetLaws.{key-short, key-long, key-cut, key-got}
 use Rattle.walk.proofs.set.key_end.Statement.{statement}
 use Rattle.walk.proofs.set.key_end.Tie as tie
 

@@ -1,7 +1,7 @@
-use Rattle.walk.proofs.GoingLaws.{follows-by}
-use borrow.Author.Tests.{eq-eqb}
 use native.Mathlib.Omega.{arith}
+use borrow.Author.Tests.{eq-eqb}
 use borrow.Author.Needs.{needs}
+use Rattle.walk.proofs.GoingLaws.{follows-by}
 use Rattle.walk.proofs.set.key_follows.Statement.{statement}
 use Rattle.walk.proofs.set.key_follows.Tie as tie
 

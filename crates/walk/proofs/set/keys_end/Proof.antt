@@ -1,13 +1,13 @@
-use Rattle.walk.proofs.GoingLaws.{Ordered, ascending, ordered-start, ordered-apart, ordered-next, ordered-unfit, ordered-cut, ordered-end, going-join}
-use Rattle.walk.proofs.SetLaws.{itself, keyAt, key-labelled}
-use Rattle.walk.specs.Walks.{Got}
-use Rattle.walk.specs.Counts.{aKey}
-use Rattle.keys.specs.Limit.{keyLimit}
-use denote.Ref.{now}
+use mathlib.Core.Path.{sym, _∙_}
+use native.Mathlib.Omega.{arith}
 use borrow.Author.Tests.{not-true, not-false}
 use borrow.Author.Needs.{needs}
-use native.Mathlib.Omega.{arith}
-use mathlib.Core.Path.{sym, _∙_}
+use denote.Ref.{now}
+use Rattle.keys.specs.Limit.{keyLimit}
+use Rattle.walk.specs.Walks.{Got}
+use Rattle.walk.specs.Counts.{aKey}
+use Rattle.walk.proofs.GoingLaws.{Ordered, ascending, ordered-start, ordered-apart, ordered-next, ordered-unfit, ordered-cut, ordered-end, going-join}
+use Rattle.walk.proofs.SetLaws.{itself, keyAt, key-labelled}
 use Rattle.walk.proofs.set.keys_end.Statement.{statement}
 use Rattle.walk.proofs.set.keys_end.Tie as tie
 

@@ -1,5 +1,5 @@
-use Rattle.walk.proofs.SetLaws.{set-short, set-ends}
 use borrow.Author.Needs.{needs}
+use Rattle.walk.proofs.SetLaws.{set-short, set-ends}
 use Rattle.walk.proofs.set.set_end.Statement.{statement}
 use Rattle.walk.proofs.set.set_end.Tie as tie
 
