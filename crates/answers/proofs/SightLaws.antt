@@ -5,8 +5,7 @@ use mathlib.Core.Bool.{true}
 use mathlib.Core.List.{List, [], _∷_, _++_}
 use native.Mathlib.Omega.{arith}
 use lib.ListN.{length, drop}
-use Rattle.machine.specs.Lists.{All}
-use Rattle.machine.specs.State.{State, Txn, Entry, base, TxnOk, MachineState}
+use Rattle.machine.specs.State.{State, Txn, Entry, base}
 use Rattle.machine.specs.Calls.{holding}
 use Rattle.codec.specs.Codec.{Codec, writeRun}
 use Rattle.codec.specs.Formats.{bind, only, via, run}
@@ -19,13 +18,9 @@ use Rattle.layout.specs.Rooms.{load}
 use Rattle.layout.specs.Places.{Part, Row, Rows}
 use Rattle.layout.proofs.PartLaws.{both, through, tested, part-end}
 use Rattle.layout.proofs.RowLaws.{run-row, row-end}
-use Rattle.layout.proofs.SizeLaws.{head-length, fits-size}
+use Rattle.layout.proofs.SizeLaws.{head-length, machine-size}
 use Rattle.layout.proofs.LoadLaws.{Held, load-read, held}
 use Rattle.edits.proofs.LaidLaws.{Laid, entriesOf, activeOf, laid-start}
-
-pub ids-long : (n : ℕ) (ts : List Txn) → All (TxnOk base n) ts → All (λ t. length (t .id) ≡ 16) ts
-ids-long n [] a = tt
-ids-long n (t ∷ ts) a = (a .0 .id-length, ids-long n ts (a .1))
 
 pub record Rowed (s : List ℕ) (st : State) (used : ℕ) : Type 0 where
   pub entries : Row (entryForm (base .key)) s 20 (st .entries) (20 + length (entriesOf (st .entries)))
@@ -43,7 +38,7 @@ module _ (s : List ℕ) (st : State) (used : ℕ) (w : Stands (stateForm base) s
   sight-used = stands-length (stateForm base) w (omega arith) i ∙ omega arith
 
   pub sight-short : used ≤ roomSize base
-  sight-short = omega (arith, sight-used, fits-size base (base .key) st (sight-held .kept .ceilings) (ids-long (st .last) (st .active) (sight-held .kept .txns)))
+  sight-short = omega (arith, sight-used, machine-size base (base .key) st (sight-held .kept))
 
   pub sight-laid : Laid s s used (st .last) (length (st .entries)) (length (st .active)) (entriesOf (st .entries)) (activeOf (st .active))
   sight-laid = laid-start s st used sight-held sight-used sight-short

@@ -10,7 +10,7 @@ use Rattle.bounds.specs.Ranges.{Range}
 use Rattle.ranges.specs.Making.{keyOf, kindOf}
 use Rattle.fields.specs.Forms.{boundTag}
 use Rattle.machine.specs.Lists.{sum, All}
-use Rattle.machine.specs.State.{Bytes, Txn, Entry, State, Ceilings, Fits, setBytes, rangeBytes, txnBytes, entryBytes, txnMarks, entryMarks, marks, keyBytes}
+use Rattle.machine.specs.State.{Bytes, Txn, Entry, State, Ceilings, Fits, TxnOk, MachineState, setBytes, rangeBytes, txnBytes, entryBytes, txnMarks, entryMarks, marks, keyBytes}
 use Rattle.codec.specs.Codec.{Codec, writeRun}
 use Rattle.codec.specs.Formats.{number, raw, bind, only, via, run}
 use Rattle.codec.proofs.NumberLaws.{length-number}
@@ -84,3 +84,10 @@ pub fits-size : (L : Ceilings) (m : ℕ) (s : State) → Fits L s → All (λ t.
 fits-size L m s f a =
     rw (state-length m s)
     (omega (arith, f .active, f .entries, f .marks, f .bytes, entries-length m (s .entries), active-length m (s .active) a))
+
+pub ids-long : (L : Ceilings) (n : ℕ) (ts : List Txn) → All (TxnOk L n) ts → All (λ t. length (t .id) ≡ 16) ts
+ids-long L n [] a = tt
+ids-long L n (t ∷ ts) a = (a .0 .id-length, ids-long L n ts (a .1))
+
+pub machine-size : (L : Ceilings) (m : ℕ) (s : State) → MachineState L s → length (plainForm m .write s) ≤ roomSize L
+machine-size L m s o = fits-size L m s (o .ceilings) (ids-long L (s .last) (s .active) (o .txns))

@@ -153,8 +153,17 @@ fn sound(top: Top, t: Tally) -> bool
     top.entries == 0
 }
 
-// The state's record that a room holds, if it holds one.
+// The state's record that a room holds, if it holds one. No byte beyond the published size is looked at.
 pub fn open(room: &[u8]) -> Opened
+    ensures { λ r. ⌜ Opening (now (room .entry)) r ⌝ }
+{
+    if room.len() < SIZE {
+        return Opened::Bad;
+    }
+    open_record(&room[0..SIZE])
+}
+
+fn open_record(room: &[u8]) -> Opened
     ensures { λ r. ⌜ Opening (now (room .entry)) r ⌝ }
 {
     if room.len() < SIZE {

@@ -22,7 +22,7 @@ use Rattle.layout.specs.States.{roomSize}
 use Rattle.layout.specs.Rooms.{Served}
 use Rattle.layout.specs.Places.{Row, Part, Here}
 use Rattle.layout.proofs.RowLaws.{row-end, row-inside, write-append}
-use Rattle.layout.proofs.SizeLaws.{txn-length, fits-size, state-length}
+use Rattle.layout.proofs.SizeLaws.{txn-length, ids-long, fits-size, state-length}
 use Rattle.layout.proofs.LoadLaws.{Changed, refuse, look, look-absent, change, make-fresh, fresh-short}
 use Rattle.edits.specs.Edits.{freshHead}
 use Rattle.edits.proofs.LaidLaws.{Laid, entriesOf, activeOf, laid-used, laid-active, laid-end, laid-number}
@@ -35,7 +35,6 @@ use Rattle.room.specs.declared.View.{View}
 use Rattle.room.specs.Views.{Seen}
 use Rattle.answers.proofs.StateLaws.{begun, begin-malformed, begin-again, begin-full, begin-fits, begin-done, check-malformed, check-absent, check-done, minimum-nobody, minimum-done}
 use Rattle.answers.proofs.ChangeLaws.{fresh-changed, relaid, active-split, laid-put}
-use Rattle.answers.proofs.SightLaws.{ids-long}
 use Rattle.answers.proofs.SeenLaws.{seen-load, seen-held, seen-laid, seen-short, entry-row, active-row, found-in}
 
 pub fresh-made : {s s' : List ℕ} {n : ℕ} → roomSize base ≤ length s → s' ≡ paste s 0 (headForm .write (freshHead n)) 20 → n < 256 ^ 8 → Served s (fresh n) 0 n s'
@@ -83,7 +82,7 @@ module _ (s : List ℕ) (v : View) (id : Bytes) (w : Seen s v) where
       room-for : v .used + 30 ≤ roomSize base
       room-for =
           let t : Txn = newTxn id (w .state .last) in
-          let long = fits-size base (base .key) (begun base (w .state) id) fits-in (put-all (λ u. length (u .id) ≡ 16) t (w .state .active) h (ids-long (w .state .last) (w .state .active) (seen-held w .kept .txns))) in
+          let long = fits-size base (base .key) (begun base (w .state) id) fits-in (put-all (λ u. length (u .id) ≡ 16) t (w .state .active) h (ids-long base (w .state .last) (w .state .active) (seen-held w .kept .txns))) in
           let a : length (activeOf (put t (w .state .active))) ≡ length (activeOf (place .front)) + (30 + length (activeOf (place .back))) =
           ap (λ (x : List Txn). length (activeOf x)) (before-puts place t refl) ∙ ap length (active-split (place .front) t (place .back)) ∙ length-append (activeOf (place .front)) _
           ∙ rw (length-append (txnForm (base .key) .write t) (activeOf (place .back)), new-length id (w .state .last) h) in
