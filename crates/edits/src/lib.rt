@@ -12,19 +12,17 @@ ghost use Rattle.layout.specs.Records.{txnForm, headForm, entryForm};
 ghost use Rattle.layout.specs.Places.{Rows};
 ghost use Rattle.edits.specs.Edits.{freshHead, Prunes};
 use codec::numbers::read_eight;
-use codec::numbers::read_two;
 use codec::numbers::write_eight;
 use codec::numbers::write_two;
+use layout::ACTIVE_COUNT;
+use layout::ENTRY_COUNT;
+use layout::HEAD;
+use layout::LAST;
+use layout::STAMP;
 use moves::copy_in;
 use moves::shift;
 use moves::splice;
 use places::skips::entry_past;
-
-// The letters "Stranvk1": this format and its ceilings.
-const STAMP: u64 = 0x537472616E766B31;
-
-// Where the entries begin.
-const HEAD: usize = 20;
 
 // Takes `n` bytes at a place out of the first `used` ones.
 pub fn remove(room: &mut [u8], used: usize, at: usize, n: usize)
@@ -41,9 +39,9 @@ pub fn write_fresh(room: &mut [u8], last: u64)
     ensures { λ _. ⌜ now (room .exit) ≡ paste (now (room .entry)) 0 (headForm .write (freshHead last)) 20 ⌝ }
 {
     write_eight(room, 0, STAMP);
-    write_eight(room, 8, last);
-    write_two(room, 16, 0);
-    write_two(room, 18, 0);
+    write_eight(room, LAST, last);
+    write_two(room, ENTRY_COUNT, 0);
+    write_two(room, ACTIVE_COUNT, 0);
 }
 
 // Puts the record of a transaction that has just begun in at a place of the first `used` bytes.

@@ -6,9 +6,7 @@ ghost use Rattle.codec.specs.Places.{Stands};
 ghost use Rattle.oracle.specs.Advance.{Advanced};
 use codec::numbers::read_eight;
 use codec::numbers::write_eight;
-
-// Where the last number stands in a room's head.
-const LAST: usize = 8;
+use layout::LAST;
 
 pub fn last_committed_seq(room: &[u8]) -> u64
     requires { ⌜ 16 ≤ length (now room) ⌝ }

@@ -12,16 +12,15 @@ use crate::ceilings::BYTE_LIMIT;
 use crate::ceilings::ENTRY_LIMIT;
 use crate::ceilings::MARK_LIMIT;
 use crate::ceilings::SIZE;
+use layout::ACTIVE_COUNT;
+use layout::ENTRY_COUNT;
+use layout::HEAD;
+use layout::LAST;
+use layout::STAMP;
 use walk::tally::Tally;
 use walk::tally::Walked;
 
 pub mod ceilings;
-
-// The letters "Stranvk1".
-const STAMP: u64 = 6013557165237103409;
-
-// A head takes this many bytes.
-const HEAD: usize = 20;
 
 // The head of a room: the last number, how many entries, how many active.
 struct Top {
@@ -62,9 +61,9 @@ fn head(room: &[u8]) -> Headed
     if stamp != STAMP {
         return Headed::No;
     }
-    let last = codec::numbers::read_eight(room, 8);
-    let entries = codec::numbers::read_two(room, 16);
-    let active = codec::numbers::read_two(room, 18);
+    let last = codec::numbers::read_eight(room, LAST);
+    let entries = codec::numbers::read_two(room, ENTRY_COUNT);
+    let active = codec::numbers::read_two(room, ACTIVE_COUNT);
     Headed::Is(Top {
         last,
         entries,

@@ -7,6 +7,9 @@ use answers::Answer;
 use codec::numbers::write_two;
 use edits::put_txn;
 use edits::write_fresh;
+use layout::ACTIVE_COUNT;
+use layout::HEAD;
+use layout::ID;
 use oracle::oracle::last_committed_seq;
 use places::finds::Place;
 use places::finds::find_txn;
@@ -15,15 +18,6 @@ use room::View;
 use room::ceilings::ACTIVE_LIMIT;
 use room::ceilings::SIZE;
 use search::conflicts;
-
-// An id's length.
-const ID: usize = 16;
-
-// Where the entries begin.
-const ENTRIES: usize = 20;
-
-// Where the count of the active ones stands.
-const ACTIVE: usize = 18;
 
 // Makes a room fresh, whatever it held.
 pub fn make_fresh(room: &mut [u8], last: u64) -> Answer
@@ -70,7 +64,7 @@ pub fn begin(room: &mut [u8], v: View, id: &[u8]) -> Answer
             }
             let start = last_committed_seq(room);
             put_txn(room, used, at, id, start);
-            write_two(room, ACTIVE, active + 1);
+            write_two(room, ACTIVE_COUNT, active + 1);
             Answer {
                 status: 0,
                 value: start,
@@ -99,7 +93,7 @@ pub fn check(room: &[u8], v: View, id: &[u8]) -> Answer
             value: 0,
         },
         Place::Here { at, end: _ } => {
-            if conflicts(room, ENTRIES, entries, at) {
+            if conflicts(room, HEAD, entries, at) {
                 return Answer {
                     status: 0,
                     value: 1,
