@@ -1,4 +1,4 @@
--- The record of one key: where it ends, and where it stands in a key list.
+-- The record of one key, and where it stands in a key list.
 use Prim.Native.Nat.{ℕ, _+_, _-_, _≤_, _<_}
 use mathlib.Core.Path.{_≡_, refl, sym, ap, _∙_}
 use mathlib.Core.List.{_++_}
@@ -8,31 +8,16 @@ use lib.ListN.{length, take, drop, getD, length-append}
 use lib.Seq.{slice, length-slice, take-append-add}
 use Rattle.fields.specs.Fields.{keyList}
 use Rattle.fields.specs.Forms.{ItemAt, sizeAt}
-use Rattle.machine.specs.State.{Bytes, base}
+use Rattle.machine.specs.State.{Bytes}
 use Rattle.codec.specs.Formats.{number, raw, bind, only, via}
 use Rattle.codec.specs.Places.{Stands}
 use Rattle.codec.proofs.NumberLaws.{stands-number, length-number}
 use Rattle.moves.proofs.SpliceLaws.{drop-take}
 use Rattle.layout.specs.Keys.{keyForm}
-use Rattle.layout.specs.Places.{Here, Ends}
-use Rattle.layout.proofs.PartLaws.{number-read-is}
-use Rattle.layout.proofs.OpenLaws.{OpenKey, open-key}
-use Rattle.sets.specs.Sets.{Key}
 
 -- a part of some bytes as it is lent
 abbrev pub part : Bytes → ℕ → ℕ → Bytes
 part s from to = take (to - from) (drop from s)
-
-module _ {s : Bytes} {at : ℕ} where
-  pub here-open : (h : Here Key s at) → OpenKey (base .key) s at (h .val) (h .end)
-  here-open h = open-key (base .key) (h .part)
-
-  module _ {n : ℕ} (q : Stands (number 2) s at n (at + 2)) where
-    pub key-ends : Ends Key s at (at + 2 + n)
-    key-ends = record { is = λ a e p. let o = open-key (base .key) p in omega (arith, o .ends, number-read-is 2 (o .length-at) q) }
-
-    pub key-inside : Here Key s at → at + 2 + n ≤ length s
-    key-inside h = let o = here-open h in omega (arith, o .ends, o .inside, number-read-is 2 (o .length-at) q)
 
 -- the two bytes behind a key field's tag and its payload are the record of the key
 pub key-record : (m : ℕ) {list : Bytes} {at from to : ℕ} → ItemAt keyList list at 0x4b from to (slice from to list) → ((i : ℕ) → getD list i 0 < 256)

@@ -1,21 +1,13 @@
 // Sets of keys in a draft: the record of each key after the other, ascending.
-ghost use Rattle.layout.specs.Places.{Here, Rows, Ends};
+ghost use Rattle.layout.specs.Places.{Rows};
 ghost use Rattle.sets.specs.Sets.{Key, FoundIs, Ready, InsertedIs};
-use codec::numbers::read_two;
 use fields::NextKey;
 use fields::next_key;
 use moves::splice;
+use places::skips::key_past;
 
 // A key's length takes this many bytes.
 const HEAD: usize = 2;
-
-// Where the key that stands at a place ends.
-fn key_past(room: &[u8], at: usize) -> usize
-    requires { ⌜ Here Key (now room) at ⌝ }
-    ensures { λ r. ⌜ Ends Key (now (room .entry)) at r ⌝ }
-{
-    at + HEAD + read_two(room, at)
-}
 
 // Where a key belongs in a set: it is there, or it is to stand before what stands at a place.
 enum Found {

@@ -6,7 +6,7 @@ use Rattle.sets.proofs.find_place.Tie as tie
 use Rattle.sets.proofs.find_place.Reads as reads
 use Rattle.sets.proofs.find_place.Lts as lts
 use Rattle.keys.proofs.compare.Reads as compare-reads
-use Rattle.sets.proofs.key_past.Reads as key-past-reads
+use Rattle.places.proofs.skips.key_past.Reads as key-past-reads
 
 abbrev Inv-loop : tie.InvT-loop
 Inv-loop draft count key place₀ left₀ place left = Seek draft count key place left
