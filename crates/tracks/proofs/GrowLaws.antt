@@ -1,0 +1,162 @@
+-- A set of a room is copied to a draft, where the keys are added, and put back.
+use Prim.Native.Nat.{ℕ, _+_, _-_, _*_, _≤_}
+use mathlib.Core.Path.{_≡_, refl, sym, ap, _∙_, subst}
+use mathlib.Core.List.{List, _++_, append-assoc}
+use mathlib.Core.Option.{none, some, Option·some-injective}
+use native.Mathlib.Omega.{arith}
+use native.Mathlib.Nat.{le-refl}
+use lib.ListN.{length, take, drop, length-drop, replicate, length-replicate}
+use lib.Seq.{paste, length-paste, take-length, drop-at, length-take-le}
+use Rattle.fields.specs.Fields.{keyList}
+use Rattle.machine.specs.State.{Bytes, base, setBytes}
+use Rattle.machine.specs.Sets.{insertAll}
+use Rattle.machine.proofs.SetLaws.{insertAll-longer}
+use Rattle.codec.specs.Codec.{writeRun, RunOk}
+use Rattle.codec.specs.Formats.{number, bind, via, run}
+use Rattle.codec.specs.Places.{Stands}
+use Rattle.moves.specs.Splices.{Spliced, usedAfter}
+use Rattle.moves.proofs.SpliceLaws.{drop-take}
+use Rattle.layout.specs.Keys.{setForm, listForm, below}
+use Rattle.layout.specs.Places.{Part, Row, Ends}
+use Rattle.layout.proofs.PartLaws.{part-one, part-ok, part-end, number-read-is}
+use Rattle.layout.proofs.RowLaws.{row-slice, row-of}
+use Rattle.layout.proofs.OpenLaws.{OpenList, open-set}
+use Rattle.layout.proofs.SizeLaws.{keys-length, set-length}
+use Rattle.sets.specs.Sets.{Key}
+use Rattle.drafts.specs.declared.Drafted.{Drafted}
+use Rattle.drafts.specs.Drafts.{Begun, SetStands, DraftedIs}
+use Rattle.tracks.specs.declared.Grown.{Grown}
+use Rattle.tracks.specs.Tracks.{Growable, Outcome, SetGrown, NotGrown, GrownIs}
+
+-- some bytes stand behind the first two of a draft
+pub record Copied (d src : Bytes) : Type 0 where
+  pub size : length d ≡ 34818
+  pub rest : Bytes
+  pub is : drop 2 d ≡ src ++ rest
+
+copied-to : (d0 d src : Bytes) → length d0 ≡ 34818 → 2 + length src ≤ 34818 → d ≡ paste d0 2 src (length src) → Copied d src
+copied-to d0 d src z h e =
+    let rest : Bytes = drop (2 + length src) d0 in
+    let f : d ≡ take 2 d0 ++ (src ++ rest) = e ∙ rw (take-length src) (append-assoc (take 2 d0) src rest) in
+    record {
+      size = ap length e ∙ length-paste d0 2 src (length src) (omega arith) (le-refl _) ∙ z;
+      rest = rest;
+      is = ap (drop 2) f ∙ drop-at (take 2 d0) (src ++ rest) 2 (length-take-le 2 d0 (omega arith));
+    }
+
+in-order : {s : Bytes} {at e : ℕ} (ks : List Bytes) → Part (setForm (base .key)) s at ks e → RunOk Key below none ks
+unfolding setForm listForm via bind run
+in-order ks p = part-ok (setForm (base .key)) p .1 .0
+
+module _ {s list : Bytes} {used at marks bytes : ℕ} (g : Growable s used at list marks bytes) where
+  opened : OpenList Key below s at (g .ks) (g .end)
+  opened = open-set (base .key) (g .part)
+
+  pub head-inside : at + 2 ≤ length s
+  head-inside = opened .count-at .inside
+
+  module _ {e : ℕ} (x : Ends (setForm (base .key)) s at e) where
+    ends-there : e ≡ g .end
+    ends-there = x .is (g .ks) (g .end) (g .part)
+
+    -- where the set stands
+    pub record Inside : Type 0 where
+      pub size : e ≡ at + (2 + 2 * length (g .ks) + setBytes (g .ks))
+      pub keys : e - (at + 2) ≡ 2 * length (g .ks) + setBytes (g .ks)
+      pub few : e - (at + 2) + 2 * marks + bytes ≤ 34816
+      pub within : e ≤ used
+      pub inside : used ≤ length s
+
+    pub set-inside : Inside
+    set-inside =
+        let l : e ≡ at + (2 + 2 * length (g .ks) + setBytes (g .ks)) = ends-there ∙ part-end (setForm (base .key)) (g .part) ∙ rw (set-length (base .key) (g .ks)) in
+        record {
+          size = l;
+          keys = omega (arith, l);
+          few = omega (arith, l, g .few, g .small);
+          within = omega (arith, ends-there, g .within);
+          inside = omega (arith, g .space);
+        }
+
+    -- the keys' bytes, as they are copied
+    abbrev pub lent : Bytes
+    lent = take (e - (at + 2)) (drop (at + 2) s)
+
+    lent-keys : lent ≡ writeRun Key (g .ks)
+    lent-keys = sym (drop-take (at + 2) e s) ∙ rw ends-there (row-slice Key s (at + 2) (g .ks) (g .end) (opened .row))
+
+    lent-length : length lent ≡ e - (at + 2)
+    lent-length = ap length lent-keys ∙ keys-length (base .key) (g .ks) ∙ sym (set-inside .keys)
+
+    draft-room : 2 + length lent ≤ 34818
+    draft-room = omega (arith, lent-length, set-inside .few)
+
+    pub fits-draft : 2 + length lent ≤ length (replicate {A = ℕ} 34818 0)
+    fits-draft = let z : length (replicate {A = ℕ} 34818 0) ≡ 34818 = length-replicate {A = ℕ} 34818 0 in rw z draft-room
+
+    pub copied : (d : Bytes) → d ≡ paste (replicate 34818 0) 2 lent (length lent) → Copied d lent
+    copied d c = copied-to (replicate 34818 0) d lent (length-replicate {A = ℕ} 34818 0) draft-room c
+
+    module _ {n : ℕ} (q : Stands (number 2) s at n (at + 2)) {d1 : Bytes} (c : Copied d1 lent) where
+      count-is : n ≡ length (g .ks)
+      count-is = number-read-is 2 (opened .count-at) q
+
+      draft-row : Row Key (drop 2 d1) 0 (g .ks) (e - (at + 2))
+      draft-row =
+          let f : drop 2 d1 ≡ writeRun Key (g .ks) ++ c .rest = c .is ∙ ap (λ (x : Bytes). x ++ c .rest) lent-keys in
+          let l : 0 + length (writeRun Key (g .ks)) ≡ e - (at + 2) = omega (arith, ap length lent-keys, lent-length) in
+          subst (Row Key (drop 2 d1) 0 (g .ks)) l (row-of Key below none (drop 2 d1) 0 (g .ks) (c .rest) (in-order (g .ks) (g .part)) (omega arith) f)
+
+      pub begun : Begun d1 (e - (at + 2)) n list marks bytes
+      begun =
+          record {
+            head = omega (arith, c .size);
+            keys =
+                record {
+                  ks = g .ks;
+                  row = draft-row;
+                  count = sym count-is;
+                  keys = g .keys;
+                  listed = g .listed;
+                  short = g .short;
+                  space = omega (arith, set-inside .few, c .size, length-drop 2 d1);
+                };
+          }
+
+      -- what holds of this set and these keys holds of all that the bytes can be read as
+      for-every : {s' : Bytes} {r : Grown} → Outcome s used at (g .ks) e (insertAll (g .keys) (g .ks)) marks bytes s' r → GrownIs s used at list marks bytes s' r
+      for-every {s'} {r} o = record { is = λ ks keys f p l. moved ks keys f (part-one (setForm (base .key)) (g .part) p) (Option·some-injective (g .keys) keys (sym (g .listed) ∙ l)) }
+        where
+          moved : (ks keys : List Bytes) (f : ℕ) → (g .ks ≡ ks) × (g .end ≡ f) → g .keys ≡ keys → Outcome s used at ks f (insertAll keys ks) marks bytes s' r
+          moved ks keys f a b = rw (← a .0, ← b, ← a .1, ← ends-there) o
+
+      pub not-grown : {d2 : Bytes} → DraftedIs d1 (e - (at + 2)) n list marks bytes d2 Drafted.Full → GrownIs s used at list marks bytes s Grown.Full
+      not-grown d = for-every (record { same = refl; passes = d .is (g .ks) (g .keys) draft-row (sym count-is) (g .listed) })
+
+      module _ {d2 : Bytes} {m k : ℕ} (d : DraftedIs d1 (e - (at + 2)) n list marks bytes d2 (Drafted.Set m k)) where
+        drafted : SetStands d2 (g .ks) (insertAll (g .keys) (g .ks)) marks bytes m k
+        drafted = d .is (g .ks) (g .keys) draft-row (sym count-is) (g .listed)
+
+        record-is : take (m - 0) d2 ≡ setForm (base .key) .write (insertAll (g .keys) (g .ks))
+        record-is = let z : m - 0 ≡ m = omega arith in rw z (drafted .whole)
+
+        pub in-draft : m ≤ length d2
+        in-draft = drafted .inside
+
+        pub more-keys : n ≤ k
+        more-keys = omega (arith, count-is, drafted .count, insertAll-longer (g .keys) (g .ks))
+
+        pub can-put : (at + (e - at) ≤ used) × (used ≤ length s) × (usedAfter used (e - at) (take (m - 0) d2) ≤ length s)
+        can-put =
+            let l : length (take (m - 0) d2) ≡ 2 + 2 * length (insertAll (g .keys) (g .ks)) + setBytes (insertAll (g .keys) (g .ks)) = ap length record-is ∙ set-length (base .key) (insertAll (g .keys) (g .ks)) in
+            (omega (arith, set-inside .size, set-inside .within), omega (arith, g .space), omega (arith, l, set-inside .size, set-inside .within, drafted .few, drafted .small, g .space))
+
+        pub grown : {s' : Bytes} → Spliced s used at (e - at) (take (m - 0) d2) s' → GrownIs s used at list marks bytes s' (Grown.New (k - n))
+        grown {s'} w =
+            for-every
+            (record {
+              spliced = subst (λ (x : Bytes). Spliced s used at (e - at) x s') record-is w;
+              new = omega (arith, more-keys, count-is, drafted .count);
+              few = drafted .few;
+              small = drafted .small;
+            })

@@ -1,0 +1,144 @@
+use Prim.Native.Nat.{_+_, _-_}
+use denote.Ref.{now}
+use Rattle.drafts.specs.declared.Drafted.{Drafted}
+use Rattle.drafts.specs.Drafts.{DraftedIs}
+use native.Mathlib.Omega.{arith}
+use Rattle.tracks.proofs.GrowLaws.{head-inside, Copied, set-inside, lent, fits-draft, copied, begun, not-grown, in-draft, more-keys, can-put, grown}
+use borrow.Author.Needs.{needs}
+use Rattle.tracks.proofs.grow_set.Statement.{statement}
+use Rattle.tracks.proofs.grow_set.Tie as tie
+use Rattle.tracks.proofs.grow_set.Reads as reads
+use Rattle.tracks.proofs.grow_set.Lts as lts
+use Rattle.codec.proofs.numbers.read_two.Reads as read-two-reads
+use Rattle.drafts.proofs.draft_keys.Reads as draft-keys-reads
+use Rattle.moves.proofs.copy_in.Reads as copy-in-reads
+use Rattle.moves.proofs.splice.Reads as splice-reads
+use Rattle.places.proofs.skips.set_past.Reads as set-past-reads
+
+-- the draft with the set's keys
+was-copied : (c : tie.After-copy-in) → Copied (c .copy-in .last .0) (lent (c .before .before .before .before .before .before .before .before .before .before .pre) (c .before .before .before .before .before .before .set-past .ensures))
+was-copied c = copied (c .before .before .before .before .before .before .before .before .before .before .pre) (c .before .before .before .before .before .before .set-past .ensures) _ (c .copy-in .ensures)
+
+-- the draft with the list's keys
+drafted : (c : tie.After-n) → DraftedIs (c .before .before .before .before .before .before .copy-in .last .0) (c .before .before .before .before .before .before .before .before .before .before .before .before .set-past .result - (c .before .before .before .before .before .before .before .before .before .before .before .before .before .before .before .before .args .at + 2)) (c .before .before .before .before .before .before .before .before .before .before .read-two .result) (now (c .before .before .before .before .before .before .before .before .before .before .before .before .before .before .before .before .args .list)) (c .before .before .before .before .before .before .before .before .before .before .before .before .before .before .before .before .args .marks) (c .before .before .before .before .before .before .before .before .before .before .before .before .before .before .before .before .args .bytes) (c .before .before .before .draft-keys .last .0) (Drafted.Set (c .n .given .0 .0) (c .n .given .0 .1 .0))
+drafted c = rw (c .n .given .1) at (c .before .before .before .draft-keys .ensures)
+
+-- src/lib.rt:35:16
+add-from : tie.Need-add-from
+add-from c = search needs
+
+-- src/lib.rt:36:9
+set-past-requires : tie.Need-set-past-requires
+set-past-requires c κs = search needs
+
+-- src/lib.rt:37:9
+read-two-requires : tie.Need-read-two-requires
+read-two-requires c κs = head-inside (c .before .before .before .before .before .pre)
+
+-- src/lib.rt:38:13
+slice-aggregate-copy-in : tie.Need-slice-aggregate-copy-in
+slice-aggregate-copy-in c = search needs
+
+-- src/lib.rt:38:32
+sub-copy-in : tie.Need-sub-copy-in
+sub-copy-in c = omega (arith, set-inside (c .before .before .before .before .before .before .before .pre) (c .before .before .before .set-past .ensures))
+
+-- src/lib.rt:38:32
+part-copy-in-start : tie.Need-part-copy-in-start
+part-copy-in-start c = omega (arith, set-inside (c .before .before .before .before .before .before .before .before .pre) (c .before .before .before .before .set-past .ensures))
+
+-- src/lib.rt:38:32
+part-copy-in-end : tie.Need-part-copy-in-end
+part-copy-in-end c = omega (arith, set-inside (c .before .before .before .before .before .before .before .before .pre) (c .before .before .before .before .set-past .ensures))
+
+-- src/lib.rt:38:5
+copy-in-requires : tie.Need-copy-in-requires
+copy-in-requires c κs = fits-draft (c .before .before .before .before .before .before .before .before .before .pre) (c .before .before .before .before .before .set-past .ensures)
+
+-- src/lib.rt:39:22
+slice-aggregate-draft-keys : tie.Need-slice-aggregate-draft-keys
+slice-aggregate-draft-keys c = search needs
+
+-- src/lib.rt:39:34
+sub-draft-keys : tie.Need-sub-draft-keys
+sub-draft-keys c = omega (arith, set-inside (c .before .before .before .before .before .before .before .before .before .before .before .before .pre) (c .before .before .before .before .before .before .before .before .set-past .ensures))
+
+-- src/lib.rt:39:11
+draft-keys-requires : tie.Need-draft-keys-requires
+draft-keys-requires c κs = begun (c .before .before .before .before .before .before .before .before .before .before .before .before .pre) (c .before .before .before .before .before .before .before .before .set-past .ensures) (c .before .before .before .before .before .before .read-two .ensures) (was-copied (c .before .before))
+
+-- src/lib.rt:40:29
+enum-known-n : tie.Need-enum-known-n
+enum-known-n c = search needs
+
+-- src/lib.rt:41:36
+sub-splice : tie.Need-sub-splice
+sub-splice c = omega (arith, set-inside (c .before .before .before .before .before .before .before .before .before .before .before .before .before .before .before .before .before .before .pre) (c .before .before .before .before .before .before .before .before .before .before .before .before .before .before .set-past .ensures))
+
+-- src/lib.rt:41:46
+sub-splice-2 : tie.Need-sub-splice-2
+sub-splice-2 c = search needs
+
+-- src/lib.rt:41:46
+part-splice-start : tie.Need-part-splice-start
+part-splice-start c = search needs
+
+-- src/lib.rt:41:46
+part-splice-end : tie.Need-part-splice-end
+part-splice-end c = omega (arith, in-draft (c .before .before .before .before .before .before .before .before .before .before .before .before .before .before .before .before .before .before .before .pre) (c .before .before .before .before .before .before .before .before .before .before .before .before .before .before .before .set-past .ensures) (c .before .before .before .before .before .before .before .before .before .before .before .before .before .read-two .ensures) (was-copied (c .before .before .before .before .before .before .before .before .before)) (drafted (c .before .before .before)))
+
+-- src/lib.rt:41:13
+splice-requires : tie.Need-splice-requires
+splice-requires c κs = can-put (c .before .before .before .before .before .before .before .before .before .before .before .before .before .before .before .before .before .before .before .before .pre) (c .before .before .before .before .before .before .before .before .before .before .before .before .before .before .before .before .set-past .ensures) (c .before .before .before .before .before .before .before .before .before .before .before .before .before .before .read-two .ensures) (was-copied (c .before .before .before .before .before .before .before .before .before .before)) (drafted (c .before .before .before .before))
+
+-- src/lib.rt:42:31
+sub-t30 : tie.Need-sub-t30
+sub-t30 c = more-keys (c .before .before .before .before .before .before .before .before .before .before .before .before .before .before .before .before .before .before .before .before .before .before .before .pre) (c .before .before .before .before .before .before .before .before .before .before .before .before .before .before .before .before .before .before .before .set-past .ensures) (c .before .before .before .before .before .before .before .before .before .before .before .before .before .before .before .before .before .read-two .ensures) (was-copied (c .before .before .before .before .before .before .before .before .before .before .before .before .before)) (drafted (c .before .before .before .before .before .before .before))
+
+-- src/lib.rt:42:13
+same-length : tie.Need-same-length
+same-length c = search needs
+
+-- src/lib.rt:42:13
+returns : tie.Need-returns
+returns c = grown (c .before .before .before .before .before .before .before .before .before .before .before .before .before .before .before .before .before .before .before .before .before .before .before .pre) (c .before .before .before .before .before .before .before .before .before .before .before .before .before .before .before .before .before .before .before .set-past .ensures) (c .before .before .before .before .before .before .before .before .before .before .before .before .before .before .before .before .before .read-two .ensures) (was-copied (c .before .before .before .before .before .before .before .before .before .before .before .before .before)) (drafted (c .before .before .before .before .before .before .before)) (c .before .before .splice .ensures)
+
+-- src/lib.rt:44:26
+enum-told : tie.Need-enum-told
+enum-told c = search needs
+
+-- src/lib.rt:44:26
+same-length-2 : tie.Need-same-length-2
+same-length-2 c = search needs
+
+-- src/lib.rt:44:26
+returns-2 : tie.Need-returns-2
+returns-2 c = not-grown (c .before .before .before .before .before .before .before .before .before .before .before .before .before .before .before .before .pre) (c .before .before .before .before .before .before .before .before .before .before .before .before .set-past .ensures) (c .before .before .before .before .before .before .before .before .before .before .read-two .ensures) (was-copied (c .before .before .before .before .before .before)) (rw (c .enum-told .given .1) at (c .before .before .before .draft-keys .ensures))
+
+pub grow-set-spec : {M : Type 1} → statement M
+grow-set-spec =
+    tie.close
+    (tie.spec
+    add-from
+    set-past-requires
+    read-two-requires
+    slice-aggregate-copy-in
+    sub-copy-in
+    part-copy-in-start
+    part-copy-in-end
+    copy-in-requires
+    slice-aggregate-draft-keys
+    sub-draft-keys
+    draft-keys-requires
+    enum-known-n
+    sub-splice
+    sub-splice-2
+    part-splice-start
+    part-splice-end
+    splice-requires
+    sub-t30
+    same-length
+    returns
+    enum-told
+    same-length-2
+    returns-2)

@@ -1,0 +1,50 @@
+-- What a set of a room is when the keys of a list are added.
+use Prim.Native.Nat.{ℕ, _+_, _-_, _*_, _≤_, _<_}
+use mathlib.Core.Path.{_≡_}
+use mathlib.Core.Bool.{true}
+use mathlib.Core.List.{List}
+use mathlib.Core.Logic.{_⊎_}
+use mathlib.Core.Option.{some}
+use lib.ListN.{length}
+use Rattle.fields.specs.Fields.{keyList}
+use Rattle.fields.specs.Forms.{shortKeys}
+use Rattle.machine.specs.State.{Bytes, base, setBytes}
+use Rattle.machine.specs.Sets.{insertAll}
+use Rattle.moves.specs.Splices.{Spliced}
+use Rattle.layout.specs.Keys.{setForm}
+use Rattle.layout.specs.Places.{Part}
+use Rattle.tracks.specs.declared.Grown.{Grown}
+
+-- a set stands at a place of the used bytes, the list's keys are within the limit, and so many new ones pass neither a total nor
+-- the room
+pub record Growable (s : Bytes) (used at : ℕ) (list : Bytes) (marks bytes : ℕ) : Type 0 where
+  pub ks : List Bytes
+  pub end : ℕ
+  pub part : Part (setForm (base .key)) s at ks end
+  pub within : end ≤ used
+  pub keys : List Bytes
+  pub listed : keyList list ≡ some keys
+  pub short : shortKeys (base .key) keys ≡ true
+  pub few : length ks + marks ≤ base .marks
+  pub small : setBytes ks + bytes ≤ base .bytes
+  pub space : used + 2 * marks + bytes ≤ length s
+
+-- the record of the set `all` stands in the place of that of `ks`; k of its keys are new
+pub record SetGrown (s : Bytes) (used at : ℕ) (ks : List Bytes) (e : ℕ) (all : List Bytes) (marks bytes : ℕ) (s' : Bytes) (k : ℕ) : Type 0 where
+  pub spliced : Spliced s used at (e - at) (setForm (base .key) .write all) s'
+  pub new : length all ≡ length ks + k
+  pub few : length all ≤ length ks + marks
+  pub small : setBytes all ≤ setBytes ks + bytes
+
+-- "Keeping half of a list that didn't fit" is shut out: no byte is changed
+pub record NotGrown (s : Bytes) (ks all : List Bytes) (marks bytes : ℕ) (s' : Bytes) : Type 0 where
+  pub same : s' ≡ s
+  pub passes : (length ks + marks < length all) ⊎ (setBytes ks + bytes < setBytes all)
+
+abbrev pub Outcome : Bytes → ℕ → ℕ → List Bytes → ℕ → List Bytes → ℕ → ℕ → Bytes → Grown → Type 0
+Outcome s used at ks e all marks bytes s' (Grown.New k) = SetGrown s used at ks e all marks bytes s' k
+Outcome s used at ks e all marks bytes s' Grown.Full = NotGrown s ks all marks bytes s'
+
+-- for every set that the bytes can be read as, and every list of keys
+pub record GrownIs (s : Bytes) (used at : ℕ) (list : Bytes) (marks bytes : ℕ) (s' : Bytes) (r : Grown) : Type 0 where
+  pub is : (ks keys : List Bytes) (e : ℕ) → Part (setForm (base .key)) s at ks e → keyList list ≡ some keys → Outcome s used at ks e (insertAll keys ks) marks bytes s' r
