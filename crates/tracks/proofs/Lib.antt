@@ -1,1 +1,4 @@
 pub mod GrowLaws
+pub mod SeenLaws
+pub mod SetLaws
+pub mod KeysLaws

@@ -1,19 +1,45 @@
--- What a set of a room is when the keys of a list are added.
+-- Tracks of keys: which set of a transaction they go to, where it stands, and what it is when the keys of a list are added.
 use Prim.Native.Nat.{ℕ, _+_, _-_, _*_, _≤_, _<_}
 use mathlib.Core.Path.{_≡_}
 use mathlib.Core.Bool.{true}
-use mathlib.Core.List.{List}
+use mathlib.Core.List.{List, _++_}
 use mathlib.Core.Logic.{_⊎_}
 use mathlib.Core.Option.{some}
 use lib.ListN.{length}
 use Rattle.fields.specs.Fields.{keyList}
 use Rattle.fields.specs.Forms.{shortKeys}
-use Rattle.machine.specs.State.{Bytes, base, setBytes}
+use Rattle.machine.specs.State.{Bytes, Txn, base, setBytes}
 use Rattle.machine.specs.Sets.{insertAll}
+use Rattle.machine.specs.Calls.{Op, trackWrites, trackReads}
+use Rattle.machine.specs.Serve.{addWrites, addReads}
+use Rattle.codec.specs.Formats.{number}
 use Rattle.moves.specs.Splices.{Spliced}
 use Rattle.layout.specs.Keys.{setForm}
+use Rattle.layout.specs.Records.{txnForm}
 use Rattle.layout.specs.Places.{Part}
 use Rattle.tracks.specs.declared.Grown.{Grown}
+use Rattle.tracks.specs.declared.Which.{Which}
+use Rattle.tracks.specs.declared.Which.the-variants.{Writes, Reads}
+
+abbrev pub tracking : Which → Bytes → Bytes → Op
+tracking Writes i bs = trackWrites i bs
+tracking Reads i bs = trackReads i bs
+
+abbrev pub setOf : Which → Txn → List Bytes
+setOf Writes t = t .writes
+setOf Reads t = t .reads
+
+abbrev pub addKeys : Which → List Bytes → Txn → Txn
+addKeys Writes ks t = addWrites ks t
+addKeys Reads ks t = addReads ks t
+
+-- the bytes of a transaction's record before the set
+abbrev pub beforeSet : Which → Txn → Bytes
+beforeSet Writes t = t .id ++ number 8 .write (t .start)
+beforeSet Reads t = t .id ++ (number 8 .write (t .start) ++ setForm (base .key) .write (t .writes))
+
+pub record SetAt (s : Bytes) (txn : ℕ) (which : Which) (r : ℕ) : Type 0 where
+  pub is : (t : Txn) (e : ℕ) → Part (txnForm (base .key)) s txn t e → r ≡ txn + length (beforeSet which t)
 
 -- a set stands at a place of the used bytes, the list's keys are within the limit, and so many new ones pass neither a total nor
 -- the room

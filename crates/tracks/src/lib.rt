@@ -1,17 +1,37 @@
 // Tracks: the keys and ranges that an active transaction reads and writes, put into its record.
-ghost use Rattle.tracks.specs.Tracks.{Growable, GrownIs};
+ghost use Rattle.machine.specs.State.{base};
+ghost use Rattle.machine.specs.Calls.{on, trackWrites, trackReads};
+ghost use Rattle.layout.specs.Records.{txnForm};
+ghost use Rattle.layout.specs.Rooms.{Served};
+ghost use Rattle.layout.specs.Places.{Here};
+ghost use Rattle.room.specs.Views.{Seen};
+ghost use Rattle.tracks.specs.Tracks.{tracking, SetAt, Growable, GrownIs};
+use answers::Answer;
 use codec::numbers::read_two;
 use drafts::Drafted;
 use drafts::draft_keys;
+use fields::Form;
+use fields::check_keys;
 use moves::copy_in;
 use moves::splice;
+use places::finds::Place;
+use places::finds::find_txn;
 use places::skips::set_past;
+use room::View;
+use room::ceilings::BYTE_LIMIT;
+use room::ceilings::MARK_LIMIT;
 
 // What the record of the largest set takes: its count, 1,024 lengths and 32,768 key bytes.
 const SET_SIZE: usize = 34818;
 
 // A set's count takes this many bytes.
 const COUNT: usize = 2;
+
+// An id's bytes.
+const ID: usize = 16;
+
+// A transaction's writes stand behind its id and its start.
+const WRITES: usize = 24;
 
 // How many keys are new in a set, if they fit.
 enum Grown {
@@ -43,4 +63,92 @@ fn grow_set(
         }
         Drafted::Full => return Grown::Full,
     }
+}
+
+// The set that the keys of a list go to.
+enum Which {
+    Writes,
+    Reads,
+}
+
+// Where that set of the transaction at a place stands.
+fn set_at(room: &[u8], txn: usize, which: Which) -> usize
+    requires { ⌜ Here (txnForm (base .key)) (now room) txn ⌝ }
+    ensures { λ r. ⌜ SetAt (now (room .entry)) txn which r ⌝ }
+{
+    match which {
+        Which::Writes => txn + WRITES,
+        Which::Reads => set_past(room, txn + WRITES),
+    }
+}
+
+fn track_keys(room: &mut [u8], v: View, which: Which, id: &[u8], list: &[u8]) -> Answer
+    requires { ⌜ Seen (now room) v ⌝ }
+    ensures { λ r. ⌜ Served (now (room .entry)) (on (tracking which (now (id .entry)) (now (list .entry)))) (r .status) (r .value) (now (room .exit)) ⌝ }
+{
+    let used = v.used;
+    let middle = v.middle;
+    let active = v.active;
+    let marks = v.marks;
+    let bytes = v.bytes;
+    if id.len() != ID {
+        return Answer {
+            status: 2,
+            value: 0,
+        };
+    }
+    match check_keys(list) {
+        Form::Good => match find_txn(room, middle, active, id) {
+            Place::Here { at, end: _ } => {
+                let set = set_at(room, at, which);
+                match grow_set(
+                    room,
+                    used,
+                    set,
+                    list,
+                    MARK_LIMIT - marks,
+                    BYTE_LIMIT - bytes,
+                ) {
+                    Grown::New(n) => {
+                        return Answer {
+                            status: 0,
+                            value: n as u64,
+                        };
+                    }
+                    Grown::Full => return Answer {
+                        status: 6,
+                        value: 0,
+                    },
+                }
+            }
+            Place::Before(_) => return Answer {
+                status: 1,
+                value: 0,
+            },
+        },
+        Form::Long => return Answer {
+            status: 4,
+            value: 0,
+        },
+        Form::Malformed => return Answer {
+            status: 2,
+            value: 0,
+        },
+    }
+}
+
+// Adds the keys of a list to the write set of a transaction.
+pub fn track_writes(room: &mut [u8], v: View, id: &[u8], list: &[u8]) -> Answer
+    requires { ⌜ Seen (now room) v ⌝ }
+    ensures { λ r. ⌜ Served (now (room .entry)) (on (trackWrites (now (id .entry)) (now (list .entry)))) (r .status) (r .value) (now (room .exit)) ⌝ }
+{
+    track_keys(room, v, Which::Writes, id, list)
+}
+
+// Adds the keys of a list to the read set of a transaction.
+pub fn track_reads(room: &mut [u8], v: View, id: &[u8], list: &[u8]) -> Answer
+    requires { ⌜ Seen (now room) v ⌝ }
+    ensures { λ r. ⌜ Served (now (room .entry)) (on (trackReads (now (id .entry)) (now (list .entry)))) (r .status) (r .value) (now (room .exit)) ⌝ }
+{
+    track_keys(room, v, Which::Reads, id, list)
 }
