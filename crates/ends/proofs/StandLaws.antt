@@ -1,0 +1,68 @@
+-- The records of a room's entries and active ones stand where its bytes are laid out.
+use Prim.Native.Nat.{ℕ, _+_, _-_, _≤_, _<_, _^_}
+use mathlib.Core.Path.{_≡_, refl, sym, ap, _∙_}
+use mathlib.Core.Bool.{Bool, true}
+use mathlib.Core.List.{List, [], _∷_, _++_, append-assoc}
+use mathlib.Core.Option.{Option, none, some}
+use native.Mathlib.Omega.{arith}
+use lib.ListN.{length, take, drop, length-append, take-append-drop}
+use lib.Seq.{drop-at, drop-drop}
+use Rattle.machine.specs.Lists.{All}
+use Rattle.machine.specs.State.{Txn, Entry, base}
+use Rattle.codec.specs.Codec.{Codec, RunOk, fine}
+use Rattle.codec.specs.Formats.{number}
+use Rattle.codec.specs.Places.{Stands}
+use Rattle.codec.proofs.NumberLaws.{length-number}
+use Rattle.layout.specs.Keys.{anyOrder}
+use Rattle.layout.specs.Records.{stamp, entryForm, txnForm}
+use Rattle.layout.specs.Places.{Part, Row}
+use Rattle.layout.proofs.PartLaws.{part-ok}
+use Rattle.layout.proofs.RowLaws.{row-of}
+use Rattle.edits.proofs.LaidLaws.{bytesOf, Laid, entriesOf, activeOf, inside, laid-used}
+
+any-fine : {A : Type 0} (C : Codec A) (p : Option A) (a : A) → fine C anyOrder p a ≡ true
+any-fine C none a = refl
+any-fine C (some b) a = refl
+
+-- what stands in a row can be written
+pub row-ok : {A : Type 0} (C : Codec A) (p : Option A) (s : List ℕ) (at : ℕ) (xs : List A) (e : ℕ) → Row C s at xs e → RunOk C anyOrder p xs
+row-ok C p s at [] e r = tt
+row-ok C p s at (x ∷ xs) e r = (any-fine C p x, (part-ok C (r .first), row-ok C (some x) s (r .end) xs e (r .rest)))
+
+pub ok-append : {A : Type 0} (C : Codec A) (p : Option A) (xs ys : List A) → RunOk C anyOrder p xs → ((q : Option A) → RunOk C anyOrder q ys) → RunOk C anyOrder p (xs ++ ys)
+ok-append C p [] ys o h = h p
+ok-append C p (x ∷ xs) ys o h = (o .0, (o .1 .0, ok-append C (some x) xs ys (o .1 .1) h))
+
+module _ {s0 s : List ℕ} {used l n k : ℕ} {es ts : List ℕ} (v : Laid s0 s used l n k es ts) where
+  whole : s ≡ number 8 .write stamp ++ (number 8 .write l ++ ((number 2 .write n ++ number 2 .write k) ++ (es ++ (ts ++ drop used s))))
+  whole = sym (take-append-drop used s) ∙ ap (λ (x : List ℕ). x ++ drop used s) (v .bytes) ∙ simp append-assoc
+
+  behind : drop 20 s ≡ es ++ (ts ++ drop used s)
+  behind =
+      let h : List ℕ = number 8 .write stamp ++ (number 8 .write l ++ (number 2 .write n ++ number 2 .write k)) in
+      let lh : length h ≡ 20 = simp (length-append, length-number) in
+      let e : s ≡ h ++ (es ++ (ts ++ drop used s)) = whole ∙ simp append-assoc in
+      ap (drop 20) e ∙ drop-at h (es ++ (ts ++ drop used s)) 20 lh
+
+  -- the last number
+  pub laid-number : l < 256 ^ 8 → Stands (number 8) s 8 l 16
+  unfolding number
+  laid-number h =
+      let r : List ℕ = (number 2 .write n ++ number 2 .write k) ++ (es ++ (ts ++ drop used s)) in
+      let a : drop 8 s ≡ number 8 .write l ++ r = ap (drop 8) whole ∙ drop-at (number 8 .write stamp) (number 8 .write l ++ r) 8 (length-number 8 stamp) in
+      let b : drop 16 s ≡ r = sym (drop-drop 8 8 s) ∙ ap (drop 8) a ∙ drop-at (number 8 .write l) r 8 (length-number 8 l) in
+      record { reads = rw (a, b) (number 8 .write-is l r h) }
+
+module _ {s0 s : List ℕ} {used l n k : ℕ} (es : List Entry) (ts : List Txn) (v : Laid s0 s used l n k (entriesOf es) (activeOf ts)) where
+  pub laid-entry-row : RunOk (entryForm (base .key)) anyOrder none es → Row (entryForm (base .key)) s 20 es (20 + length (entriesOf es))
+  laid-entry-row o = row-of (entryForm (base .key)) anyOrder none s 20 es (activeOf ts ++ drop used s) o (omega (arith, laid-used v, inside v)) (behind v)
+
+  pub laid-txn-row : RunOk (txnForm (base .key)) anyOrder none ts → Row (txnForm (base .key)) s (20 + length (entriesOf es)) ts used
+  laid-txn-row o =
+      let m : ℕ = 20 + length (entriesOf es) in
+      let b : drop m s ≡ activeOf ts ++ drop used s = sym (drop-drop (length (entriesOf es)) 20 s) ∙ ap (drop (length (entriesOf es))) (behind v) ∙ drop-at (entriesOf es) (activeOf ts ++ drop used s) (length (entriesOf es)) refl in
+      let e : m + length (activeOf ts) ≡ used = omega (arith, laid-used v) in
+      ended m _ _ e (row-of (txnForm (base .key)) anyOrder none s m ts (drop used s) o (omega (arith, laid-used v, inside v)) b)
+    where
+      ended : (m e f : ℕ) → e ≡ f → Row (txnForm (base .key)) s m ts e → Row (txnForm (base .key)) s m ts f
+      ended m e f q r = rw (← q) r
