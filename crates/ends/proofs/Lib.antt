@@ -2,3 +2,5 @@ pub mod RecycleLaws
 pub mod StandLaws
 pub mod SeenLaws
 pub mod DropLaws
+pub mod LeaveLaws
+pub mod CommitLaws

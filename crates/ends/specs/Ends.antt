@@ -1,14 +1,17 @@
 -- What the inner steps of a call that ends a transaction take and leave.
-use Prim.Native.Nat.{ℕ, _≤_, _<_, _^_}
+use Prim.Native.Nat.{ℕ, _-_, _≤_, _<_, _^_}
 use mathlib.Core.Path.{_≡_}
-use mathlib.Core.List.{List}
+use mathlib.Core.List.{List, [], _++_}
 use lib.ListN.{length}
 use Rattle.machine.specs.Lists.{All}
 use Rattle.machine.specs.State.{Txn, Entry, base}
 use Rattle.machine.specs.Sets.{prune}
 use Rattle.machine.specs.Serve.{state}
+use Rattle.codec.specs.Formats.{number}
+use Rattle.moves.specs.Splices.{Spliced}
+use Rattle.layout.specs.Keys.{setForm}
 use Rattle.layout.specs.Records.{entryForm, txnForm}
-use Rattle.layout.specs.Places.{Row}
+use Rattle.layout.specs.Places.{Part, Row}
 use Rattle.layout.proofs.LoadLaws.{Changed}
 use Rattle.edits.proofs.LaidLaws.{Laid, entriesOf, activeOf}
 
@@ -36,3 +39,21 @@ pub record PrunedFor (s : List ℕ) (last : ℕ) (es : List Entry) (ts : List Tx
 
 pub record Recycled (s : List ℕ) (last n k middle used : ℕ) (s' : List ℕ) (r : ℕ) : Type 0 where
   pub is : (es : List Entry) (ts : List Txn) → Unpruned s last es ts middle used → length es ≡ n → length ts ≡ k → PrunedFor s last es ts s' r
+
+-- the record of a transaction stands from at up to end, behind `middle` and within the used bytes; a draft can hold its writes
+pub record Leaving (s : List ℕ) (used middle at end : ℕ) : Type 0 where
+  pub one : Txn
+  pub part : Part (txnForm (base .key)) s at one end
+  pub after : middle ≤ at
+  pub within : end ≤ used
+  pub inside : used ≤ length s
+  pub short : length (setForm (base .key) .write (one .writes)) ≤ 34818
+
+-- "the transaction leaves; its write set becomes the last entry"
+pub record EnteredFor (s : List ℕ) (used middle at end seq : ℕ) (t : Txn) (s' : List ℕ) : Type 0 where
+  pub rest : List ℕ
+  pub leaves : Spliced s used at (end - at) [] rest
+  pub enters : Spliced rest (used - (end - at)) middle 0 (number 8 .write seq ++ setForm (base .key) .write (t .writes)) s'
+
+pub record Entered (s : List ℕ) (used middle at end seq : ℕ) (s' : List ℕ) : Type 0 where
+  pub is : (t : Txn) → Part (txnForm (base .key)) s at t end → EnteredFor s used middle at end seq t s'

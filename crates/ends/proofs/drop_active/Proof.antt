@@ -21,67 +21,51 @@ found c = rw (c .at .given .1) at (c .before .before .find-txn .ensures)
 bounds : (c : tie.After-at) → Bounds (c .before .before .before .before .before .before .before .pre) (found c)
 bounds c = here-bounds (c .before .before .before .before .before .before .before .pre) (found c)
 
--- src/lib.rt:53:9
 returns : tie.Need-returns
 returns c = drop-refused (c .before .before .before .pre) (c .if1 .taken)
 
--- src/lib.rt:60:11
 find-txn-requires : tie.Need-find-txn-requires
 find-txn-requires c κs = seen-rows (c .before .before .before .before .pre)
 
--- src/lib.rt:61:23
 enum-known-at : tie.Need-enum-known-at
 enum-known-at c = search needs
 
--- src/lib.rt:62:24
 sub-gone : tie.Need-sub-gone
 sub-gone c = bounds (c .before) .from
 
--- src/lib.rt:63:13
 remove-requires : tie.Need-remove-requires
 remove-requires c κs = let b = bounds (c .before .before) in (omega (arith, b .from, b .within), b .inside)
 
--- src/lib.rt:64:37
 sub-write-two : tie.Need-sub-write-two
 sub-write-two c = bounds (c .before .before .before .before .before .before) .some
 
--- src/lib.rt:64:13
 write-two-requires : tie.Need-write-two-requires
 write-two-requires c κs = search needs
 
--- src/lib.rt:69:17
 sub-recycle-recent-committed-txns : tie.Need-sub-recycle-recent-committed-txns
 sub-recycle-recent-committed-txns c = bounds (c .before .before .before .before .before .before .before .before .before .before) .some
 
--- src/lib.rt:71:17
 sub-recycle-recent-committed-txns-2 : tie.Need-sub-recycle-recent-committed-txns-2
 sub-recycle-recent-committed-txns-2 c = omega (arith, bounds (c .before .before .before .before .before .before .before .before .before .before) .within)
 
--- src/lib.rt:65:17
 recycle-recent-committed-txns-requires : tie.Need-recycle-recent-committed-txns-requires
 recycle-recent-committed-txns-requires c κs = drop-prunable (c .before .before .before .before .before .before .before .before .before .before .before .before .before .before .before .before .before .pre) (c .before .before .before .before .before .before .before .before .before .before .before .before .before .before .if1 .left) (found (c .before .before .before .before .before .before .before .before .before .before)) (c .before .before .before .before .before .before .before .remove .ensures) (c .before .before .before .write-two .ensures)
 
--- src/lib.rt:80:47
 enum-told : tie.Need-enum-told
 enum-told c = search needs
 
--- src/lib.rt:79:17
 recycle-recent-committed-txns-requires-2 : tie.Need-recycle-recent-committed-txns-requires-2
 recycle-recent-committed-txns-requires-2 c κs = seen-prunable (c .before .before .before .before .before .before .before .before .pre)
 
--- src/lib.rt:48:1
 same-length : tie.Need-same-length
 same-length c = search needs
 
--- src/lib.rt:48:1
 returns-2 : tie.Need-returns-2
 returns-2 c = drop-known (c .before .before .before .before .before .before .before .before .before .before .before .before .before .before .before .before .before .before .before .before .pre) (c .before .before .before .before .before .before .before .before .before .before .before .before .before .before .before .before .before .if1 .left) (found (c .before .before .before .before .before .before .before .before .before .before .before .before .before)) (c .before .before .before .before .before .before .before .before .before .before .remove .ensures) (c .before .before .before .before .before .before .write-two .ensures) (c .before .before .recycle-recent-committed-txns .ensures)
 
--- src/lib.rt:48:1
 same-length-2 : tie.Need-same-length-2
 same-length-2 c = search needs
 
--- src/lib.rt:48:1
 returns-3 : tie.Need-returns-3
 returns-3 c = drop-unknown (c .before .before .before .before .before .before .before .before .before .before .before .pre) (c .before .before .before .before .before .before .before .before .if1 .left) (rw (c .before .before .before .before .enum-told .given .1) at (c .before .before .before .before .before .before .find-txn .ensures)) (c .before .before .recycle-recent-committed-txns2 .ensures)
 

@@ -11,43 +11,33 @@ use Rattle.edits.proofs.remove.Reads as remove-reads
 use Rattle.edits.proofs.write_fresh.Reads as write-fresh-reads
 use Rattle.places.proofs.finds.least_start.Reads as least-start-reads
 
--- src/lib.rt:35:9
 write-fresh-requires : tie.Need-write-fresh-requires
 write-fresh-requires c κs = search needs
 
--- src/lib.rt:36:9
 same-length : tie.Need-same-length
 same-length c = search needs
 
--- src/lib.rt:36:9
 returns : tie.Need-returns
 returns c = recycle-nobody (c .before .before .before .before .before .before .pre) (c .before .before .before .before .if1 .taken) (c .before .before .write-fresh .ensures)
 
--- src/lib.rt:38:9
 least-start-requires : tie.Need-least-start-requires
 least-start-requires c κs = search needs
 
--- src/lib.rt:39:9
 prune-entries-requires : tie.Need-prune-entries-requires
 prune-entries-requires c κs = search needs
 
--- src/lib.rt:42:29
 sub-remove : tie.Need-sub-remove
 sub-remove c = recycle-inside (c .before .before .before .before .before .before .before .before .before .pre) _ (c .before .before .before .prune-entries .ensures) .0
 
--- src/lib.rt:42:5
 remove-requires : tie.Need-remove-requires
 remove-requires c κs = let i = recycle-inside (c .before .before .before .before .before .before .before .before .before .pre) _ (c .before .before .before .prune-entries .ensures) in (omega (arith, i .0, i .1 .0), i .1 .1)
 
--- src/lib.rt:43:5
 write-two-requires : tie.Need-write-two-requires
 write-two-requires c κs = search needs
 
--- src/lib.rt:23:1
 same-length-2 : tie.Need-same-length-2
 same-length-2 c = search needs
 
--- src/lib.rt:23:1
 returns-2 : tie.Need-returns-2
 returns-2 c = recycle-some _ (omega (arith, c .before .before .before .before .before .before .before .before .before .before .before .before .before .before .if1 .left)) (c .before .before .before .before .before .before .before .before .before .before .before .before .least-start .ensures) (c .before .before .before .before .before .before .before .before .before .before .prune-entries .ensures) (c .before .before .before .before .before .before .remove .ensures) (c .before .before .write-two .ensures)
 
