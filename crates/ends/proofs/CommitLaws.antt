@@ -42,7 +42,7 @@ advance-changed {l = l} {seq} {r} ts es x a b en ek v =
     (laid-end (state (max l seq) ts es) (relaid refl e en ek refl refl (laid-last v r (x .bytes))) (omega (arith, a, b)), e)
 
 -- nobody is left
-none-left : (ts : List Txn) → length ts ≡ 0 → ts ≡ []
+pub none-left : (ts : List Txn) → length ts ≡ 0 → ts ≡ []
 none-left [] e = refl
 none-left (t ∷ ts) e = absurd (omega (arith, e))
 

@@ -4,3 +4,4 @@ pub mod SeenLaws
 pub mod DropLaws
 pub mod LeaveLaws
 pub mod CommitLaws
+pub mod BatchLaws

@@ -2,9 +2,13 @@
 use Prim.Native.Nat.{ℕ, _-_, _≤_, _<_, _^_}
 use mathlib.Core.Path.{_≡_}
 use mathlib.Core.List.{List, [], _++_}
+use mathlib.Core.Bool.{true}
+use mathlib.Core.Option.{some}
 use lib.ListN.{length}
+use Rattle.fields.specs.Fields.{keyList}
+use Rattle.fields.specs.Forms.{shortKeys}
 use Rattle.machine.specs.Lists.{All}
-use Rattle.machine.specs.State.{Txn, Entry, base}
+use Rattle.machine.specs.State.{Bytes, Txn, Entry, base}
 use Rattle.machine.specs.Sets.{prune}
 use Rattle.machine.specs.Serve.{state}
 use Rattle.codec.specs.Formats.{number}
@@ -13,6 +17,7 @@ use Rattle.layout.specs.Keys.{setForm}
 use Rattle.layout.specs.Records.{entryForm, txnForm}
 use Rattle.layout.specs.Places.{Part, Row}
 use Rattle.layout.proofs.LoadLaws.{Changed}
+use Rattle.room.specs.declared.View.{View}
 use Rattle.edits.proofs.LaidLaws.{Laid, entriesOf, activeOf}
 
 -- the first `used` bytes are the record of a state with these entries and active ones; not of a machine state if entries stand
@@ -57,3 +62,11 @@ pub record EnteredFor (s : List ℕ) (used middle at end seq : ℕ) (t : Txn) (s
 
 pub record Entered (s : List ℕ) (used middle at end seq : ℕ) (s' : List ℕ) : Type 0 where
   pub is : (t : Txn) → Part (txnForm (base .key)) s at t end → EnteredFor s used middle at end seq t s'
+
+-- the list is one of keys within the limit, someone is active, and one more entry may stand
+pub record Entering (v : View) (list : Bytes) : Type 0 where
+  pub keys : List Bytes
+  pub listed : keyList list ≡ some keys
+  pub short : shortKeys (base .key) keys ≡ true
+  pub active : 0 < v .active
+  pub entries : v .entries < 128

@@ -3,13 +3,17 @@ ghost use mathlib.Core.Path.{_≡_};
 ghost use Rattle.machine.specs.Calls.{on, dropTxn, commit, batch};
 ghost use Rattle.layout.specs.Rooms.{Served};
 ghost use Rattle.room.specs.Views.{Seen};
-ghost use Rattle.ends.specs.Ends.{Prunable, Recycled, Leaving, Entered};
+ghost use Rattle.ends.specs.Ends.{Prunable, Recycled, Leaving, Entered, Entering};
 use answers::Answer;
 use codec::numbers::write_two;
+use drafts::Drafted;
+use drafts::draft_keys;
 use edits::prune_entries;
 use edits::put_entry;
 use edits::remove;
 use edits::write_fresh;
+use fields::Form;
+use fields::check_keys;
 use moves::copy_in;
 use oracle::oracle::advance_committed_seq;
 use oracle::oracle::larger;
@@ -18,7 +22,9 @@ use places::finds::find_txn;
 use places::finds::least_start;
 use places::skips::set_past;
 use room::View;
+use room::ceilings::BYTE_LIMIT;
 use room::ceilings::ENTRY_LIMIT;
+use room::ceilings::MARK_LIMIT;
 
 // Where the counts of the entries and of the active ones stand in a room's head.
 const ENTRIES: usize = 16;
@@ -149,6 +155,63 @@ pub fn commit_active(room: &mut [u8], v: View, id: &[u8], seq: u64) -> Answer
         Place::Before(_) => {
             let value = advance_committed_seq(room, seq);
             Answer { status: 1, value }
+        }
+    }
+}
+
+// Puts an entry of a list's keys in behind the others, and the number advances, if the totals are kept.
+fn enter_keys(room: &mut [u8], v: View, seq: u64, list: &[u8]) -> Answer
+    requires { ⌜ Seen (now room) v × Entering v (now list) ⌝ }
+    ensures { λ r. ⌜ Served (now (room .entry)) (on (batch seq (now (list .entry)))) (r .status) (r .value) (now (room .exit)) ⌝ }
+{
+    let mut draft = [0u8; SET];
+    let marks = MARK_LIMIT - v.marks;
+    let bytes = BYTE_LIMIT - v.bytes;
+    match draft_keys(&mut draft, 0, 0, list, marks, bytes) {
+        Drafted::Set { end, count: _ } => {
+            put_entry(room, v.used, v.middle, seq, &draft[0..end]);
+            write_two(room, ENTRIES, v.entries + 1);
+            let value = advance_committed_seq(room, seq);
+            Answer { status: 0, value }
+        }
+        Drafted::Full => Answer {
+            status: 6,
+            value: 0,
+        },
+    }
+}
+
+// "Write batch: the same with its own keys, an empty list included, and no id."
+pub fn batch_entry(room: &mut [u8], v: View, seq: u64, list: &[u8]) -> Answer
+    requires { ⌜ Seen (now room) v ⌝ }
+    ensures { λ r. ⌜ Served (now (room .entry)) (on (batch seq (now (list .entry)))) (r .status) (r .value) (now (room .exit)) ⌝ }
+{
+    match check_keys(list) {
+        Form::Malformed => {
+            return Answer {
+                status: 2,
+                value: 0,
+            };
+        }
+        Form::Long => {
+            return Answer {
+                status: 4,
+                value: 0,
+            };
+        }
+        Form::Good => {
+            if v.active == 0 {
+                let value = larger(v.last, seq);
+                write_fresh(room, value);
+                return Answer { status: 0, value };
+            }
+            if ENTRY_LIMIT <= v.entries {
+                return Answer {
+                    status: 6,
+                    value: 0,
+                };
+            }
+            return enter_keys(room, v, seq, list);
         }
     }
 }
