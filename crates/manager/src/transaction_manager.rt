@@ -1,4 +1,4 @@
-ghost use Rattle.machine.specs.Calls.{fresh, on, begin, check, minimum};
+ghost use Rattle.machine.specs.Calls.{fresh, on, begin, trackWrites, trackReads, check, commit, batch, dropTxn, minimum};
 ghost use Rattle.layout.specs.Rooms.{Served};
 use answers::Answer;
 use room::Opened;
@@ -23,11 +23,71 @@ pub fn new_transaction(room: &mut [u8], id: &[u8]) -> Answer
     }
 }
 
+pub fn drop_txn(room: &mut [u8], id: &[u8]) -> Answer
+    ensures { λ r. ⌜ Served (now (room .entry)) (on (dropTxn (now (id .entry)))) (r .status) (r .value) (now (room .exit)) ⌝ }
+{
+    match open(room) {
+        Opened::Of(view) => ends::drop_active(room, view, id),
+        Opened::Bad => Answer {
+            status: 7,
+            value: 0,
+        },
+    }
+}
+
+pub fn track_write_keys(room: &mut [u8], id: &[u8], keys: &[u8]) -> Answer
+    ensures { λ r. ⌜ Served (now (room .entry)) (on (trackWrites (now (id .entry)) (now (keys .entry)))) (r .status) (r .value) (now (room .exit)) ⌝ }
+{
+    match open(room) {
+        Opened::Of(view) => tracks::track_writes(room, view, id, keys),
+        Opened::Bad => Answer {
+            status: 7,
+            value: 0,
+        },
+    }
+}
+
+pub fn track_read_keys(room: &mut [u8], id: &[u8], keys: &[u8]) -> Answer
+    ensures { λ r. ⌜ Served (now (room .entry)) (on (trackReads (now (id .entry)) (now (keys .entry)))) (r .status) (r .value) (now (room .exit)) ⌝ }
+{
+    match open(room) {
+        Opened::Of(view) => tracks::track_reads(room, view, id, keys),
+        Opened::Bad => Answer {
+            status: 7,
+            value: 0,
+        },
+    }
+}
+
 pub fn check_has_conflict(room: &[u8], id: &[u8]) -> Answer
     ensures { λ r. ⌜ Served (now (room .entry)) (on (check (now (id .entry)))) (r .status) (r .value) (now (room .entry)) ⌝ }
 {
     match open(room) {
         Opened::Of(view) => starts::check(room, view, id),
+        Opened::Bad => Answer {
+            status: 7,
+            value: 0,
+        },
+    }
+}
+
+pub fn track_recent_committed_txn(room: &mut [u8], id: &[u8], seq: u64) -> Answer
+    ensures { λ r. ⌜ Served (now (room .entry)) (on (commit (now (id .entry)) seq)) (r .status) (r .value) (now (room .exit)) ⌝ }
+{
+    match open(room) {
+        Opened::Of(view) => ends::commit_active(room, view, id, seq),
+        Opened::Bad => Answer {
+            status: 7,
+            value: 0,
+        },
+    }
+}
+
+pub fn track_recent_committed_write_batch(room: &mut [u8], keys: &[u8], seq: u64) -> Answer
+    ensures { λ r. ⌜ Served (now (room .entry)) (on (batch seq (now (keys .entry)))) (r .status) (r .value) (now (room .exit)) ⌝ }
+{
+    match open(room) {
+        Opened::Of(view) => ends::batch_entry(room, view, seq, keys),
         Opened::Bad => Answer {
             status: 7,
             value: 0,
