@@ -1,16 +1,18 @@
 -- The demands on rooms of bytes, for every call that keeps the one contract.
 use Prim.Native.Nat.{ℕ, _<_}
 use mathlib.Core.Path.{_≡_, refl, sym, ap, _∙_, subst}
-use mathlib.Core.List.{List, [], _∷_}
+use mathlib.Core.List.{List, [], _∷_, map}
 use mathlib.Core.Option.{some}
 use native.Mathlib.Omega.{arith}
 use Rattle.machine.specs.State.{Bytes, Txn, Ceilings}
 use Rattle.machine.specs.Sets.{find}
-use Rattle.machine.specs.Calls.{Call, fresh, on, check, Room, short, broken, holding, Reply, replied}
+use Rattle.machine.specs.Calls.{Op, Call, fresh, on, check, Room, short, broken, holding, Reply, replied}
 use Rattle.machine.specs.Serve.{state, serve}
 use Rattle.machine.specs.History.{World, next, run, start, activeOf, Verdict, Lives}
 use Rattle.machine.proofs.Record.{demand-3, never-7}
+use Rattle.machine.specs.Rust.{Unrefused, rustRun, manager}
 use Rattle.machine.proofs.Stays.{stays-said}
+use Rattle.machine.proofs.RustAgrees.{Equals, demand-2}
 use Rattle.layout.specs.Rooms.{load, ServedBy}
 use Rattle.layout.specs.Runs.{Then, Passed, Alike}
 
@@ -61,3 +63,18 @@ module _ (L : Ceilings) where
         subst (Verdict t (run L (start n) cs .history))
         (ap (λ (x : Room). serve L x (on (check i))) (sym holds-run) ∙ a .answers)
         (demand-3 L n cs i t (subst (λ (x : Room). find i (activeOf x) ≡ some t) holds-run e))
+
+    -- "Once said, it stays said until that transaction commits or is dropped, or the room is made fresh again."
+    pub room-stays-said : (i : Bytes) (t : Txn) (s : ℕ) (after : List ℕ) → find i (activeOf (load L room)) ≡ some t → ServedBy L room (on (check i)) s 1 after
+        → (ds : List Call) (later : List ℕ) → Passed L room ds later → Lives L i (run L (start n) cs) ds
+        → (s' u' : ℕ) (after' : List ℕ) → ServedBy L later (on (check i)) s' u' after' → u' ≡ 1
+    room-stays-said i t s after e a ds later q lives s' u' after' b =
+        let one : serve L (run L (start n) cs .room) (on (check i)) .value ≡ 1 = ap (λ (x : Room). serve L x (on (check i)) .value) (sym holds-run) ∙ ap (λ (x : Reply). x .value) (a .answers) in
+        let still = stays-said L n cs ds i t (subst (λ (x : Room). find i (activeOf x) ≡ some t) holds-run e) one lives in
+        let h : load L later ≡ run L (run L (start n) cs) ds .room = passed-run (run L (start n) cs) room ds later holds-run q in
+        sym (ap (λ (x : Reply). x .value) (b .answers)) ∙ ap (λ (x : Room). serve L x (on (check i)) .value) h ∙ still
+
+  -- demand 2: "While no call has answered 2 to 7", the room holds what the Rust's manager does
+  pub room-demand-2 : (old : List ℕ) (n v : ℕ) (made : List ℕ) → ServedBy L old (fresh n) 0 v made → (cs : List Op) (room : List ℕ) → Passed L made (map on cs) room → Unrefused L (holding (state n [] [])) cs
+      → Equals L (rustRun (manager [] [] n) cs) (load L room)
+  room-demand-2 old n v made f cs room p u = subst (Equals L (rustRun (manager [] [] n) cs)) (sym (holds-run old n v made f (map on cs) room p)) (demand-2 L n cs u)
