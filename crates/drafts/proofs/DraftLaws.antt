@@ -2,19 +2,16 @@
 use Prim.Native.Nat.{ℕ, _+_, _-_, _≤_}
 use mathlib.Core.Path.{_≡_, refl, sym, ap, _∙_}
 use mathlib.Core.List.{List, [], _++_, append-nil}
-use mathlib.Core.Option.{some}
 use native.Mathlib.Omega.{arith}
 use borrow.Rule.Slice.PartMut.{putMid, same-len-mid}
 use lib.ListN.{length, take, drop, length-append, length-drop, drop-of-length-le}
 use lib.Seq.{paste, take-all, take-append-add, drop-at, length-take-le}
-use Rattle.fields.specs.Fields.{keyList}
 use Rattle.machine.specs.State.{Bytes, base}
 use Rattle.machine.specs.Sets.{insertAll}
 use Rattle.codec.specs.Codec.{writeRun}
 use Rattle.codec.specs.Formats.{number, bind, via, run}
 use Rattle.codec.proofs.NumberLaws.{length-number}
 use Rattle.layout.specs.Keys.{setForm, listForm}
-use Rattle.layout.specs.Places.{Row}
 use Rattle.layout.proofs.RowLaws.{row-inside, row-slice}
 use Rattle.sets.specs.declared.Inserted.{Inserted}
 use Rattle.sets.specs.Sets.{Key, AllStand, Ready, InsertedIs}

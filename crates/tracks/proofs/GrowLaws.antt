@@ -2,12 +2,11 @@
 use Prim.Native.Nat.{ℕ, _+_, _-_, _*_, _≤_}
 use mathlib.Core.Path.{_≡_, refl, sym, ap, _∙_, subst}
 use mathlib.Core.List.{List, _++_, append-assoc}
-use mathlib.Core.Option.{none, some, Option·some-injective}
+use mathlib.Core.Option.{none, Option·some-injective}
 use native.Mathlib.Omega.{arith}
 use native.Mathlib.Nat.{le-refl}
 use lib.ListN.{length, take, drop, length-drop, replicate, length-replicate}
 use lib.Seq.{paste, length-paste, take-length, drop-at, length-take-le}
-use Rattle.fields.specs.Fields.{keyList}
 use Rattle.machine.specs.State.{Bytes, base, setBytes}
 use Rattle.machine.specs.Sets.{insertAll}
 use Rattle.machine.proofs.SetLaws.{insertAll-longer}
@@ -26,7 +25,7 @@ use Rattle.sets.specs.Sets.{Key}
 use Rattle.drafts.specs.declared.Drafted.{Drafted}
 use Rattle.drafts.specs.Drafts.{Begun, SetStands, DraftedIs}
 use Rattle.tracks.specs.declared.Grown.{Grown}
-use Rattle.tracks.specs.Tracks.{Growable, Outcome, SetGrown, NotGrown, GrownIs}
+use Rattle.tracks.specs.Tracks.{Growable, Outcome, GrownIs}
 
 -- some bytes stand behind the first two of a draft
 pub record Copied (d src : Bytes) : Type 0 where

@@ -1,6 +1,6 @@
 -- A track of keys, one law for each way it ends.
-use Prim.Native.Nat.{ℕ, _+_, _-_, _*_, _≤_, _<_}
-use mathlib.Core.Path.{_≡_, refl, sym, ap, _∙_}
+use Prim.Native.Nat.{ℕ, _+_, _-_, _≤_, _<_}
+use mathlib.Core.Path.{_≡_, refl, _∙_}
 use mathlib.Core.Bool.{Bool, true, false, cond}
 use mathlib.Core.List.{List, _∷_, _++_}
 use mathlib.Core.Logic.{_⊎_, inl, inr}
@@ -13,12 +13,12 @@ use Rattle.fields.specs.Fields.{keyList}
 use Rattle.fields.specs.Forms.{shortKeys, formOf}
 use Rattle.machine.specs.Lists.{sum}
 use Rattle.machine.specs.State.{Bytes, State, Txn, base, marks, keyBytes, setBytes, txnMarks, txnBytes}
-use Rattle.machine.specs.Calls.{Op, on, malformed, long, full, done, absent, refused}
+use Rattle.machine.specs.Calls.{on, malformed, long, full, refused}
 use Rattle.machine.specs.Sets.{insertAll, put}
 use Rattle.machine.specs.Serve.{state, answer, track}
 use Rattle.machine.proofs.ListLaws.{sum-append}
 use Rattle.machine.proofs.SetLaws.{insertAll-longer}
-use Rattle.moves.specs.Splices.{Spliced, usedAfter}
+use Rattle.moves.specs.Splices.{usedAfter}
 use Rattle.layout.specs.Keys.{setForm}
 use Rattle.layout.specs.Records.{txnForm}
 use Rattle.layout.specs.States.{roomSize}
@@ -31,7 +31,7 @@ use Rattle.places.specs.declared.finds.Place.{Place}
 use Rattle.places.specs.Finds.{Found}
 use Rattle.sets.proofs.TotalLaws.{insertAll-bytes}
 use Rattle.edits.proofs.LaidLaws.{entriesOf, activeOf}
-use Rattle.answers.proofs.TrackLaws.{track-absent, tracked, track-full, track-done, writes-malformed, reads-malformed, writes-long, reads-long, writes-track, reads-track}
+use Rattle.answers.proofs.TrackLaws.{track-absent, track-full, track-done, writes-malformed, reads-malformed, writes-long, reads-long, writes-track, reads-track}
 use Rattle.answers.proofs.InsideLaws.{laid-within}
 use Rattle.room.specs.declared.View.{View}
 use Rattle.room.specs.Views.{Seen}

@@ -2,11 +2,11 @@
 use Prim.Native.Nat.{ℕ, _+_, _-_, _*_, _≤_}
 use native.Mathlib.Nat.{le-refl}
 use mathlib.Core.Path.{_≡_, refl, sym, ap, _∙_}
-use mathlib.Core.List.{List, _∷_, _++_}
+use mathlib.Core.List.{_∷_, _++_}
 use mathlib.Core.Option.{none, some}
 use native.Mathlib.Omega.{arith}
 use lib.ListN.{length}
-use Rattle.machine.specs.State.{Bytes, State, Txn, Ceilings, base, marks, keyBytes, MachineState, Fits}
+use Rattle.machine.specs.State.{Bytes, State, Txn, Ceilings, base, marks, keyBytes, Fits}
 use Rattle.machine.specs.Calls.{holding}
 use Rattle.machine.specs.Sets.{put, find}
 use Rattle.machine.specs.Serve.{state}
@@ -15,7 +15,7 @@ use Rattle.machine.proofs.ActiveLaws.{put-known-length}
 use Rattle.layout.specs.Records.{txnForm}
 use Rattle.layout.specs.States.{roomSize}
 use Rattle.layout.specs.Rooms.{load}
-use Rattle.layout.specs.Places.{Part, Row, Rows, Here}
+use Rattle.layout.specs.Places.{Row, Rows, Here}
 use Rattle.layout.proofs.RowLaws.{row-end}
 use Rattle.layout.proofs.SizeLaws.{fits-size}
 use Rattle.layout.proofs.LoadLaws.{Held, Changed}

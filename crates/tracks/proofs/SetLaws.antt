@@ -1,10 +1,9 @@
 -- The set of a transaction that a track goes to: where it stands in the record, and what its growth does to the totals.
 use Prim.Native.Nat.{ℕ, _+_, _≤_}
-use mathlib.Core.Path.{_≡_, refl, sym, ap, _∙_}
+use mathlib.Core.Path.{_≡_, refl, _∙_}
 use mathlib.Core.List.{List, _++_, append-assoc}
 use native.Mathlib.Omega.{arith}
 use lib.ListN.{length, length-append}
-use Rattle.machine.specs.Lists.{sum}
 use Rattle.machine.specs.State.{Bytes, Txn, base, setBytes, txnMarks, txnBytes}
 use Rattle.machine.specs.Sets.{insertAll}
 use Rattle.machine.specs.Serve.{addWrites, addReads}

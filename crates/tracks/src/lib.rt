@@ -21,6 +21,8 @@ use room::View;
 use room::ceilings::BYTE_LIMIT;
 use room::ceilings::MARK_LIMIT;
 
+pub mod range;
+
 // What the record of the largest set takes: its count, 1,024 lengths and 32,768 key bytes.
 const SET_SIZE: usize = 34818;
 
