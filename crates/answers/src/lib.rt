@@ -6,3 +6,31 @@ pub struct Answer {
     pub status: u8,
     pub value: u64,
 }
+
+// The answers without a value.
+impl Answer {
+    pub const ABSENT: Self = Answer {
+        status: 1,
+        value: 0,
+    };
+
+    pub const MALFORMED: Self = Answer {
+        status: 2,
+        value: 0,
+    };
+
+    pub const LONG: Self = Answer {
+        status: 4,
+        value: 0,
+    };
+
+    pub const EMPTY: Self = Answer {
+        status: 5,
+        value: 0,
+    };
+
+    pub const FULL: Self = Answer {
+        status: 6,
+        value: 0,
+    };
+}

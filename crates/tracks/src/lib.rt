@@ -94,10 +94,7 @@ fn track_keys(room: &mut [u8], v: View, which: Which, id: &[u8], list: &[u8]) ->
     let marks = v.marks;
     let bytes = v.bytes;
     if id.len() != ID {
-        return Answer {
-            status: 2,
-            value: 0,
-        };
+        return Answer::MALFORMED;
     }
     match check_keys(list) {
         Form::Good => match find_txn(room, middle, active, id) {
@@ -117,25 +114,13 @@ fn track_keys(room: &mut [u8], v: View, which: Which, id: &[u8], list: &[u8]) ->
                             value: n as u64,
                         };
                     }
-                    Grown::Full => return Answer {
-                        status: 6,
-                        value: 0,
-                    },
+                    Grown::Full => return Answer::FULL,
                 }
             }
-            Place::Before(_) => return Answer {
-                status: 1,
-                value: 0,
-            },
+            Place::Before(_) => return Answer::ABSENT,
         },
-        Form::Long => return Answer {
-            status: 4,
-            value: 0,
-        },
-        Form::Malformed => return Answer {
-            status: 2,
-            value: 0,
-        },
+        Form::Long => return Answer::LONG,
+        Form::Malformed => return Answer::MALFORMED,
     }
 }
 

@@ -78,19 +78,13 @@ pub fn track_range(room: &mut [u8], v: View, id: &[u8], bounds: &[u8]) -> Answer
     let marks = v.marks;
     let bytes = v.bytes;
     if id.len() != ID {
-        return Answer {
-            status: 2,
-            value: 0,
-        };
+        return Answer::MALFORMED;
     }
     match check_range(bounds) {
         Judged::Good(size) => match find_txn(room, middle, active, id) {
             Place::Here { at, end } => {
                 if marks == MARK_LIMIT || BYTE_LIMIT - bytes < size {
-                    return Answer {
-                        status: 6,
-                        value: 0,
-                    };
+                    return Answer::FULL;
                 }
                 append_range(room, used, at, end, bounds);
                 return Answer {
@@ -98,22 +92,10 @@ pub fn track_range(room: &mut [u8], v: View, id: &[u8], bounds: &[u8]) -> Answer
                     value: 1,
                 };
             }
-            Place::Before(_) => return Answer {
-                status: 1,
-                value: 0,
-            },
+            Place::Before(_) => return Answer::ABSENT,
         },
-        Judged::Empty => return Answer {
-            status: 5,
-            value: 0,
-        },
-        Judged::Long => return Answer {
-            status: 4,
-            value: 0,
-        },
-        Judged::Malformed => return Answer {
-            status: 2,
-            value: 0,
-        },
+        Judged::Empty => return Answer::EMPTY,
+        Judged::Long => return Answer::LONG,
+        Judged::Malformed => return Answer::MALFORMED,
     }
 }
