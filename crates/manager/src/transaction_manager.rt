@@ -1,4 +1,4 @@
-ghost use Rattle.machine.specs.Calls.{fresh, on, begin, trackWrites, trackReads, check, commit, batch, dropTxn, minimum};
+ghost use Rattle.machine.specs.Calls.{fresh, on, begin, trackWrites, trackReads, trackRange, check, commit, batch, dropTxn, minimum};
 ghost use Rattle.layout.specs.Rooms.{Served};
 use answers::Answer;
 use room::Opened;
@@ -52,6 +52,18 @@ pub fn track_read_keys(room: &mut [u8], id: &[u8], keys: &[u8]) -> Answer
 {
     match open(room) {
         Opened::Of(view) => tracks::track_reads(room, view, id, keys),
+        Opened::Bad => Answer {
+            status: 7,
+            value: 0,
+        },
+    }
+}
+
+pub fn track_read_range(room: &mut [u8], id: &[u8], range: &[u8]) -> Answer
+    ensures { λ r. ⌜ Served (now (room .entry)) (on (trackRange (now (id .entry)) (now (range .entry)))) (r .status) (r .value) (now (room .exit)) ⌝ }
+{
+    match open(room) {
+        Opened::Of(view) => tracks::range::track_range(room, view, id, range),
         Opened::Bad => Answer {
             status: 7,
             value: 0,
