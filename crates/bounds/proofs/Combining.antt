@@ -4,12 +4,12 @@ use mathlib.Core.Path.{_≡_, refl, sym, ap, _∙_}
 use mathlib.Core.Bool.{Bool, true, false, cond, _||_}
 use mathlib.Core.List.{List}
 use Rattle.keys.specs.Order.{isLess}
-use Rattle.bounds.specs.declared.kind.Kind.{Kind}
+use Rattle.kinds.specs.declared.kind.Kind.{Kind}
 use Rattle.bounds.specs.declared.comparable_range.Side.{Side}
 use Rattle.bounds.specs.declared.comparable_range.Side.the-variants.{First, Second}
 use Rattle.bounds.specs.declared.comparable_range.Combined.{Combined}
 use Rattle.bounds.specs.declared.comparable_range.Combined.the-variants.{Of, Nothing}
-use Rattle.bounds.specs.Bounds.{Bound, bound}
+use Rattle.kinds.specs.Bounds.{Bound, bound}
 use Rattle.bounds.specs.Ranges.{Range, range, sided, maxStart, minEnd, maxEnd, notEmptyPair, touches, rangeOrder, isGiven, intersectOf, joinOf, unionOf, swapSides}
 
 sided-bound : (s : Side) (k l : Kind) (x y : List ℕ) → sided s (bound k x) (bound l y) ≡ bound (sided s k l) (sided s x y)

@@ -10,11 +10,13 @@ use Rattle.bounds.specs.declared.comparable_range.Side.{Side}
 use Rattle.bounds.specs.declared.comparable_range.Side.the-variants.{First, Second}
 use Rattle.bounds.specs.declared.comparable_range.Combined.{Combined}
 use Rattle.bounds.specs.declared.comparable_range.Combined.the-variants.{Of, Nothing}
-use Rattle.bounds.specs.Bounds.{Bound, startOrder, endOrder, startAdmits, endAdmits}
+use Rattle.kinds.specs.Bounds.{Bound, startOrder, endOrder, startAdmits, endAdmits}
 use Rattle.bounds.specs.Ranges.{Range, holds, notEmpty, sided, maxEnd, taken, isGiven, touches, rangeOrder, intersectOf, joinOf, unionOf, swapSides}
-use Rattle.bounds.proofs.Cuts.{before, startCut, endCut, start-order, end-order, not-empty, touching, start-admits, end-admits}
-use Rattle.bounds.proofs.BoundOrder.{start-total, end-total, range-total, at-itself, by-more, greater-first, greater-second, lesser-first, either-way}
-use Rattle.bounds.proofs.Meets.{shared, shared-either, given-by, given-sides, intersect-given, start-wider, end-wider}
+use Rattle.kinds.proofs.Cuts.{before, startCut, endCut, start-order, end-order, start-admits, end-admits, start-wider, end-wider}
+use Rattle.kinds.proofs.BoundOrder.{start-total, end-total, at-itself, by-more, either-way}
+use Rattle.bounds.proofs.PairCuts.{not-empty, touching}
+use Rattle.bounds.proofs.RangeOrder.{range-total, greater-first, greater-second, lesser-first}
+use Rattle.bounds.proofs.Meets.{shared, shared-either, given-by, given-sides, intersect-given}
 
 -- "first range the lesser by start and then end"
 abbrev pub first : Range → Range → Range

@@ -1,7 +1,6 @@
 pub mod Combining
-pub mod Ties
-pub mod Cuts
-pub mod BoundOrder
+pub mod PairCuts
+pub mod RangeOrder
 pub mod Meets
 pub mod Joins
 pub mod Points

@@ -4,14 +4,15 @@ use mathlib.Core.Path.{_≡_, refl, sym, ap, _∙_}
 use mathlib.Core.Bool.{Bool, true, false, cond, _&&_}
 use mathlib.Core.List.{List}
 use Rattle.keys.specs.Order.{isMore, notMore}
-use Rattle.keys.proofs.OrderLaws.{not-more-trans, less-not-more, not-more-less}
+use Rattle.keys.proofs.OrderLaws.{not-more-less}
 use Rattle.bounds.specs.declared.comparable_range.Side.{Side}
 use Rattle.bounds.specs.declared.comparable_range.Side.the-variants.{First, Second}
 use Rattle.bounds.specs.declared.comparable_range.Combined.the-variants.{Of, Nothing}
-use Rattle.bounds.specs.Bounds.{Bound, startOrder, endOrder, startAdmits, endAdmits}
+use Rattle.kinds.specs.Bounds.{Bound, startAdmits, endAdmits}
 use Rattle.bounds.specs.Ranges.{Range, range, holds, notEmpty, sided, maxStart, minEnd, taken, isGiven, intersectOf}
-use Rattle.bounds.proofs.Cuts.{before, startCut, endCut, start-order, end-order, not-empty, start-admits, end-admits}
-use Rattle.bounds.proofs.BoundOrder.{start-total, end-total, by-more, either-way}
+use Rattle.kinds.proofs.Cuts.{before, startCut, endCut, start-admits, end-admits, start-wider, end-wider}
+use Rattle.kinds.proofs.BoundOrder.{start-total, end-total, by-more, either-way}
+use Rattle.bounds.proofs.PairCuts.{not-empty}
 
 and-left : (p q : Bool) → (p ≡ true → q ≡ true) → p ≡ (p && q)
 and-left true q h = sym (h refl)
@@ -29,17 +30,6 @@ regroup true false false v = refl
 regroup false q u v = refl
 
 module _ (k : List ℕ) where
-  -- a lesser start and a greater end admit all that the other does
-  pub start-wider : (a b : Bound) → notMore (startOrder a b) ≡ true → startAdmits b k ≡ true → startAdmits a k ≡ true
-  start-wider a b h e =
-      start-admits a k
-      ∙ not-more-trans (startCut a) (startCut b) (before k) (ap notMore (sym (start-order a b)) ∙ h) (sym (start-admits b k) ∙ e)
-
-  pub end-wider : (a b : Bound) → notMore (endOrder a b) ≡ true → endAdmits a k ≡ true → endAdmits b k ≡ true
-  end-wider a b h e =
-      end-admits b k
-      ∙ less-not-more (before k) (endCut a) (endCut b) (sym (end-admits a k) ∙ e) (ap notMore (sym (end-order a b)) ∙ h)
-
   max-start-admits : (a b : Bound) → startAdmits (sided (maxStart a b) a b) k ≡ (startAdmits a k && startAdmits b k)
   max-start-admits a b =
       by-more
@@ -47,8 +37,8 @@ module _ (k : List ℕ) where
       a
       b
       (λ t. startAdmits (sided (cond t First Second) a b) k ≡ (startAdmits a k && startAdmits b k))
-      (λ l. and-left (startAdmits a k) (startAdmits b k) (start-wider b a l))
-      (λ l. and-right (startAdmits a k) (startAdmits b k) (start-wider a b l))
+      (λ l. and-left (startAdmits a k) (startAdmits b k) (start-wider k b a l))
+      (λ l. and-right (startAdmits a k) (startAdmits b k) (start-wider k a b l))
 
   min-end-admits : (a b : Bound) → endAdmits (sided (minEnd a b) a b) k ≡ (endAdmits a k && endAdmits b k)
   min-end-admits a b =
@@ -57,8 +47,8 @@ module _ (k : List ℕ) where
       a
       b
       (λ t. endAdmits (sided (cond t Second First) a b) k ≡ (endAdmits a k && endAdmits b k))
-      (λ l. and-right (endAdmits a k) (endAdmits b k) (end-wider b a l))
-      (λ l. and-left (endAdmits a k) (endAdmits b k) (end-wider a b l))
+      (λ l. and-right (endAdmits a k) (endAdmits b k) (end-wider k b a l))
+      (λ l. and-left (endAdmits a k) (endAdmits b k) (end-wider k a b l))
 
 -- the greater start and the lesser end
 abbrev pub shared : Range → Range → Range

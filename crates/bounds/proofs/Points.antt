@@ -7,7 +7,7 @@ use mathlib.Core.List.{List}
 use mathlib.Core.Ordering.{Ordering, lt, eq, gt, swap}
 use Rattle.keys.specs.Order.{order, isSame, notMore}
 use Rattle.keys.proofs.OrderLaws.{order-refl, order-eq, order-swap}
-use Rattle.bounds.specs.Bounds.{Bound, unbounded, included, excluded}
+use Rattle.kinds.specs.Bounds.{Bound, unbounded, included, excluded}
 use Rattle.bounds.specs.Ranges.{Range, range, holds, isPoint, isPointPair}
 
 pub record Point (r : Range) : Type 0 where

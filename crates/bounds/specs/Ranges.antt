@@ -9,7 +9,7 @@ use Rattle.bounds.specs.declared.comparable_range.Side.{Side}
 use Rattle.bounds.specs.declared.comparable_range.Side.the-variants.{First, Second}
 use Rattle.bounds.specs.declared.comparable_range.Combined.{Combined}
 use Rattle.bounds.specs.declared.comparable_range.Combined.the-variants.{Of, Nothing}
-use Rattle.bounds.specs.Bounds.{Bound, unbounded, included, excluded, bound, startOrder, endOrder, startAdmits, endAdmits}
+use Rattle.kinds.specs.Bounds.{Bound, unbounded, included, excluded, bound, startOrder, endOrder, startAdmits, endAdmits}
 
 pub record Range : Type 0 where
   pub start : Bound

@@ -2,9 +2,9 @@ ghost use mathlib.Core.Path.{_≡_};
 ghost use mathlib.Core.Bool.{cond};
 ghost use lib.IntN.{ℤ};
 ghost use Rattle.keys.specs.Order.{sign};
-ghost use Rattle.bounds.specs.Bounds.{bound};
+ghost use Rattle.kinds.specs.Bounds.{bound};
 ghost use Rattle.bounds.specs.Ranges.{range, rangeOf, everything, sided, otherSide, maxStart, minEnd, maxEnd, rangeOrder, holds, notEmpty, touchesPair, isGiven, intersectOf, joinOf, unionOf, swapSides};
-use crate::kind::Kind;
+use kinds::kind::Kind;
 
 // Which of two ranges a part comes from.
 pub enum Side {

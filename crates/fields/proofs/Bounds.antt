@@ -7,7 +7,7 @@ use native.Mathlib.Omega.{arith}
 use borrow.Author.Tests.{eq-eqb, ne-eqb}
 use lib.ListN.{length, drop, length-drop, drop-of-length-le}
 use lib.Seq.{slice, length-slice}
-use Rattle.bounds.specs.Bounds.{Bound, unbounded, included, excluded, bound}
+use Rattle.kinds.specs.Bounds.{Bound, unbounded, included, excluded, bound}
 use Rattle.bounds.specs.Ranges.{range}
 use Rattle.fields.specs.declared.Places.{Places}
 use Rattle.fields.specs.Fields.{field, before, onSome, fields, asBound, boundList, pairOf, boundsOf}

@@ -8,9 +8,9 @@ use mathlib.Core.Option.{Option, some, Option·none-ne-some, Option·some-inject
 use native.Mathlib.Omega.{arith}
 use lib.ListN.{length, getD, length-drop}
 use Rattle.keys.proofs.OneAnswer.{OneAnswer}
-use Rattle.bounds.specs.declared.kind.Kind.{Kind}
-use Rattle.bounds.specs.declared.kind.Kind.the-variants.{Unbounded, Included, Excluded}
-use Rattle.bounds.specs.Bounds.{bound}
+use Rattle.kinds.specs.declared.kind.Kind.{Kind}
+use Rattle.kinds.specs.declared.kind.Kind.the-variants.{Unbounded, Included, Excluded}
+use Rattle.kinds.specs.Bounds.{bound}
 use Rattle.bounds.specs.Ranges.{range}
 use Rattle.ranges.specs.Making.{kindOf}
 use Rattle.fields.specs.declared.FieldAt.{FieldAt}

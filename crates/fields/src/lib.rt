@@ -3,8 +3,8 @@ ghost use mathlib.Core.Path.{_≡_};
 ghost use Prim.Native.Nat.{_<_};
 ghost use Rattle.fields.specs.Fields.{keyList};
 ghost use Rattle.fields.specs.Forms.{FieldIs, NextIs, formOf, BoundIs, BoundsAre};
-use bounds::kind::Kind;
 use keys::KEY_LIMIT;
+use kinds::kind::Kind;
 
 const KEY: u8 = 0x4b;
 

@@ -7,9 +7,9 @@ use lib.IntN.{ℤ}
 use mir.Syntax.{w8}
 use mir.Val.{toZ, ofZ}
 use Rattle.keys.specs.Order.{sign}
-use Rattle.bounds.proofs.Ties.{kept-sign}
+use Rattle.kinds.proofs.Ties.{kept-sign}
 use Rattle.host.specs.declared.answers.Compared.{Compared}
-use Rattle.bounds.specs.declared.kind.Kind.{Kind}
+use Rattle.kinds.specs.declared.kind.Kind.{Kind}
 use Rattle.ranges.specs.declared.bytes_range.Making.{Making}
 use Rattle.ranges.specs.declared.bytes_range.Making.the-variants.{Done, TooLong, Empty}
 use Rattle.ranges.specs.Making.{isDone, status}

@@ -5,14 +5,14 @@ use mathlib.Core.List.{List}
 use mathlib.Core.Ordering.{Ordering}
 use lib.Dec.{eqb}
 use Rattle.keys.specs.Order.{sign}
-use Rattle.bounds.specs.declared.kind.Kind.{Kind}
-use Rattle.bounds.specs.declared.kind.Kind.the-variants.{Unbounded, Included, Excluded}
+use Rattle.kinds.specs.declared.kind.Kind.{Kind}
+use Rattle.kinds.specs.declared.kind.Kind.the-variants.{Unbounded, Included, Excluded}
 use Rattle.bounds.specs.declared.comparable_range.Side.{Side}
 use Rattle.bounds.specs.declared.comparable_range.Side.the-variants.{First, Second}
 use Rattle.bounds.specs.declared.comparable_range.Combined.{Combined}
 use Rattle.bounds.specs.declared.comparable_range.Combined.the-variants.{Of, Nothing}
 use Rattle.bounds.specs.declared.comparable_range.ComparableRange.{ComparableRange}
-use Rattle.bounds.specs.Bounds.{Bound, bound}
+use Rattle.kinds.specs.Bounds.{Bound, bound}
 use Rattle.bounds.specs.Ranges.{Range, range, sided}
 use Rattle.ranges.specs.declared.bytes_range.Making.{Making}
 use Rattle.ranges.specs.declared.bytes_range.Making.the-variants.{Done, TooLong, Empty}

@@ -5,8 +5,8 @@ ghost use Rattle.host.specs.Boundary.{kindAt, kindsAt, kindNumber, sideN
 use bounds::comparable_range::Combined;
 use bounds::comparable_range::ComparableRange;
 use bounds::comparable_range::Side;
-use bounds::kind::Kind;
 use keys::KEY_LIMIT;
+use kinds::kind::Kind;
 use ranges::bytes_range::MadeBound;
 use ranges::bytes_range::MadeRange;
 use ranges::bytes_range::Making;

@@ -2,7 +2,7 @@
 // that begins with the status.
 ghost use mathlib.Core.Path.{_≡_};
 ghost use Rattle.keys.specs.Order.{order, isSame, startsWith};
-ghost use Rattle.bounds.specs.Bounds.{startOrder, endOrder};
+ghost use Rattle.kinds.specs.Bounds.{startOrder, endOrder};
 ghost use Rattle.bounds.specs.Ranges.{rangeOrder, notEmpty, holds, touches, intersectOf, unionOf, isPoint};
 ghost use Rattle.ranges.specs.Prefixes.{prefixRange, subrangeOf};
 ghost use Rattle.ranges.specs.Making.{newOf, madeIncrement, madeRange};

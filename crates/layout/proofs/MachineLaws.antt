@@ -11,7 +11,7 @@ use borrow.Author.Tests.{leb-true, le-leb}
 use lib.Dec.{leb, eqb}
 use lib.ListN.{length}
 use Rattle.keys.specs.Order.{order, isLess}
-use Rattle.bounds.specs.Bounds.{Bound, unbounded, included, excluded}
+use Rattle.kinds.specs.Bounds.{Bound, unbounded, included, excluded}
 use Rattle.bounds.specs.Ranges.{Range, notEmpty}
 use Rattle.ranges.specs.Making.{keyOf, kindOf}
 use Rattle.fields.specs.Forms.{boundTag}

@@ -8,7 +8,7 @@ use borrow.Author.Tests.{leb-true}
 use lib.Dec.{leb}
 use lib.ListN.{length}
 use lib.Seq.{slice}
-use Rattle.bounds.specs.Bounds.{Bound}
+use Rattle.kinds.specs.Bounds.{Bound}
 use Rattle.bounds.specs.Ranges.{Range, notEmpty, range}
 use Rattle.ranges.specs.Making.{keyOf, kindOf}
 use Rattle.fields.specs.Forms.{boundTag}

@@ -5,7 +5,7 @@ use mathlib.Core.Bool.{Bool}
 use mathlib.Core.List.{List, [], _∷_, _++_}
 use native.Mathlib.Omega.{arith}
 use lib.ListN.{length, length-append}
-use Rattle.bounds.specs.Bounds.{Bound}
+use Rattle.kinds.specs.Bounds.{Bound}
 use Rattle.bounds.specs.Ranges.{Range}
 use Rattle.ranges.specs.Making.{keyOf, kindOf}
 use Rattle.fields.specs.Forms.{boundTag}

@@ -9,7 +9,7 @@ use mathlib.Core.Logic.{_↔_}
 use Rattle.keys.specs.Order.{order}
 use Rattle.bounds.specs.declared.comparable_range.Side.the-variants.{First, Second}
 use Rattle.bounds.specs.declared.comparable_range.Combined.the-variants.{Of, Nothing}
-use Rattle.bounds.specs.Bounds.{unbounded, included, excluded}
+use Rattle.kinds.specs.Bounds.{unbounded, included, excluded}
 use Rattle.bounds.specs.Ranges.{Range, range, holds, notEmpty, touches, unionOf}
 use Rattle.ranges.specs.Making.{newOf, status}
 use Rattle.ranges.specs.Prefixes.{increment, subrangeOf}

@@ -5,7 +5,7 @@ use mathlib.Core.Bool.{Bool}
 use mathlib.Core.List.{List, [], _∷_}
 use native.Mathlib.Omega.{arith}
 use lib.ListN.{length}
-use Rattle.bounds.specs.Bounds.{Bound}
+use Rattle.kinds.specs.Bounds.{Bound}
 use Rattle.codec.specs.Codec.{Codec}
 use Rattle.codec.specs.Formats.{number}
 use Rattle.codec.specs.Places.{Stands}

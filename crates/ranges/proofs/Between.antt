@@ -7,8 +7,8 @@ use native.Mathlib.Omega.{arith}
 use borrow.Author.Tests.{lt-ltb, ltb-false}
 use lib.ListN.{length, take, length-append}
 use Rattle.keys.specs.Limit.{keyLimit}
-use Rattle.bounds.specs.declared.kind.Kind.{Kind}
-use Rattle.bounds.specs.Bounds.{Bound, unbounded, included, excluded, bound}
+use Rattle.kinds.specs.declared.kind.Kind.{Kind}
+use Rattle.kinds.specs.Bounds.{Bound, unbounded, included, excluded, bound}
 use Rattle.bounds.specs.Ranges.{Range, range, notEmpty}
 use Rattle.ranges.specs.declared.bytes_range.Making.{Making}
 use Rattle.ranges.specs.declared.bytes_range.Making.the-variants.{Done, TooLong, Empty}

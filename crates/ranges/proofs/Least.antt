@@ -9,7 +9,7 @@ use native.Mathlib.Omega.{arith}
 use Rattle.keys.specs.Order.{order, isLess, notMore}
 use Rattle.keys.proofs.Heads.{head-less, head-more, head-same, Three, below, equal, above, three}
 use Rattle.keys.proofs.OrderLaws.{order-refl, order-swap}
-use Rattle.bounds.specs.Bounds.{endAdmits}
+use Rattle.kinds.specs.Bounds.{endAdmits}
 use Rattle.ranges.specs.Bytes.{Bytes}
 use Rattle.ranges.specs.Prefixes.{increment, endAt}
 use Rattle.ranges.proofs.IncrementLaws.{by-increment, Way, later, here, nowhere, way}

@@ -10,9 +10,9 @@ use lib.Dec.{ltb}
 use lib.ListN.{length, getD, take, drop, set, replicate, length-append, length-replicate, length-set}
 use lib.Seq.{paste, take-append-seam, take-length, drop-append-add, set-append-left}
 use Rattle.keys.specs.Limit.{keyLimit}
-use Rattle.bounds.specs.declared.kind.Kind.{Kind}
-use Rattle.bounds.specs.declared.kind.Kind.the-variants.{Unbounded, Included, Excluded}
-use Rattle.bounds.specs.Bounds.{Bound, unbounded, included, excluded, bound, isBounded}
+use Rattle.kinds.specs.declared.kind.Kind.{Kind}
+use Rattle.kinds.specs.declared.kind.Kind.the-variants.{Unbounded, Included, Excluded}
+use Rattle.kinds.specs.Bounds.{Bound, unbounded, included, excluded, bound, isBounded}
 use Rattle.bounds.specs.Ranges.{Range, range, notEmpty}
 use Rattle.ranges.specs.declared.bytes_range.Making.{Making}
 use Rattle.ranges.specs.declared.bytes_range.Making.the-variants.{Done, TooLong, Empty}

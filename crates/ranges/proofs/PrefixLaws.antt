@@ -5,7 +5,7 @@ use mathlib.Core.Bool.{true, and-true}
 use mathlib.Core.List.{List, [], _∷_, append-nil}
 use mathlib.Core.Option.{Option, none, some}
 use Rattle.keys.specs.Order.{startsWith, isLess}
-use Rattle.bounds.specs.Bounds.{included}
+use Rattle.kinds.specs.Bounds.{included}
 use Rattle.bounds.specs.Ranges.{range, everything, holds, notEmpty}
 use Rattle.ranges.specs.Bytes.{Bytes}
 use Rattle.ranges.specs.Prefixes.{increment, endAt, prefixRange, subrangeOf}

@@ -9,7 +9,7 @@ use lib.ListN.{length, drop}
 use lib.Seq.{drop-append-seam}
 use Rattle.keys.specs.Order.{order, startsWith, isLess, notMore}
 use Rattle.keys.proofs.OrderLaws.{order-refl, order-swap, same-front, starts-means}
-use Rattle.bounds.specs.Bounds.{Bound, unbounded, included, excluded, startAdmits, endAdmits}
+use Rattle.kinds.specs.Bounds.{Bound, unbounded, included, excluded, startAdmits, endAdmits}
 use Rattle.bounds.specs.Ranges.{Range, holds}
 use Rattle.ranges.specs.Bytes.{Bytes}
 use Rattle.ranges.specs.Prefixes.{increment, endAt, subStart, subEnd, subrangeOf}

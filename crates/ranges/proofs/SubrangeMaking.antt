@@ -8,9 +8,9 @@ use native.Mathlib.Omega.{arith}
 use borrow.Author.Tests.{le-ltb}
 use lib.ListN.{length, take}
 use Rattle.keys.specs.Limit.{keyLimit}
-use Rattle.bounds.specs.declared.kind.Kind.{Kind}
-use Rattle.bounds.specs.declared.kind.Kind.the-variants.{Unbounded, Included, Excluded}
-use Rattle.bounds.specs.Bounds.{bound, included, isBounded, unbounded}
+use Rattle.kinds.specs.declared.kind.Kind.{Kind}
+use Rattle.kinds.specs.declared.kind.Kind.the-variants.{Unbounded, Included, Excluded}
+use Rattle.kinds.specs.Bounds.{bound, included, isBounded, unbounded}
 use Rattle.ranges.specs.declared.bytes_range.Making.the-variants.{Done}
 use Rattle.ranges.specs.Making.{made, madeBound}
 use Rattle.ranges.specs.Prefixes.{increment, endAt, subStart, subEnd}

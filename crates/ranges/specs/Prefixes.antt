@@ -6,7 +6,7 @@ use mathlib.Core.List.{List, [], _∷_, _++_}
 use mathlib.Core.Option.{Option, none, some}
 use lib.Dec.{eqb}
 use lib.ListN.{length, take, getD}
-use Rattle.bounds.specs.Bounds.{Bound, unbounded, included, excluded}
+use Rattle.kinds.specs.Bounds.{Bound, unbounded, included, excluded}
 use Rattle.bounds.specs.Ranges.{Range, range, everything}
 
 -- "Increment: change the last byte that isn't ff to one more and cut after it; none if there is no such byte."

@@ -4,13 +4,13 @@ ghost use Prim.Native.Nat.{_+_, _≤_, _<_, _-_};
 ghost use lib.ListN.{length, getD};
 ghost use lib.Seq.{paste};
 ghost use Rattle.keys.specs.Limit.{keyLimit};
-ghost use Rattle.bounds.specs.Bounds.{Bound, bound, unbounded};
+ghost use Rattle.kinds.specs.Bounds.{Bound, bound, unbounded};
 ghost use Rattle.bounds.specs.Ranges.{range, rangeOf, everything, holds, isPoint};
 ghost use Rattle.ranges.specs.Prefixes.{increment, Raises, endAt, prefixRange, subrangeOf, subStart, subEnd};
 ghost use Rattle.ranges.specs.Making.{Sized, isDone, tooLong, newOf, padded, made, madeBound, madeIncrement, madeRange, madeAs};
 use bounds::comparable_range::ComparableRange;
-use bounds::kind::Kind;
 use keys::KEY_LIMIT;
+use kinds::kind::Kind;
 
 // How the making of a range or of a key ended: document 01's statuses 0, 4 and 5.
 pub enum Making {

@@ -2,7 +2,7 @@
 ghost use Prim.Native.Nat.{_<_};
 ghost use mathlib.Core.Path.{_≡_};
 ghost use Rattle.sample.specs.Places.{Within};
-use bounds::kind::Kind;
+use kinds::kind::Kind;
 
 pub const KEY: u8 = 0x4b;
 

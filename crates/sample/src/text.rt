@@ -2,7 +2,7 @@
 use crate::field::EXCLUDED;
 use crate::field::INCLUDED;
 use crate::field::UNBOUNDED;
-use bounds::kind::Kind;
+use kinds::kind::Kind;
 use libc::STDOUT_FILENO;
 use ranges::bytes_range::Making;
 

@@ -6,11 +6,11 @@ use mathlib.Core.List.{List}
 use native.Mathlib.Omega.{arith}
 use lib.Dec.{eqb}
 use lib.ListN.{length, getD, take, drop}
-use Rattle.bounds.specs.Bounds.{Bound, unbounded, included, excluded, bound}
+use Rattle.kinds.specs.Bounds.{Bound, unbounded, included, excluded, bound}
 use Rattle.bounds.specs.Ranges.{Range, range, rangeOf, holds}
 use Rattle.bounds.specs.declared.comparable_range.ComparableRange.{ComparableRange}
-use Rattle.bounds.specs.declared.kind.Kind.{Kind}
-use Rattle.bounds.specs.declared.kind.Kind.the-variants.{Unbounded, Included, Excluded}
+use Rattle.kinds.specs.declared.kind.Kind.{Kind}
+use Rattle.kinds.specs.declared.kind.Kind.the-variants.{Unbounded, Included, Excluded}
 use Rattle.ranges.specs.Making.{keyOf, kindOf}
 use Rattle.fields.specs.Forms.{boundTag}
 use Rattle.machine.specs.State.{Bytes, base}

@@ -3,9 +3,9 @@ use Prim.Native.Nat.{ℕ}
 use mathlib.Core.Path.{_≡_}
 use mathlib.Core.Bool.{Bool}
 use mathlib.Core.List.{List, _++_, map}
-use Rattle.bounds.specs.Bounds.{Bound}
+use Rattle.kinds.specs.Bounds.{Bound}
 use Rattle.bounds.specs.Ranges.{Range, holds}
-use Rattle.bounds.specs.declared.kind.Kind.{Kind}
+use Rattle.kinds.specs.declared.kind.Kind.{Kind}
 use Rattle.ranges.specs.Making.{kindOf}
 use Rattle.machine.specs.State.{Bytes, Txn, base}
 use Rattle.machine.specs.Sets.{equal}

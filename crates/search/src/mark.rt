@@ -4,7 +4,7 @@ ghost use Rattle.layout.specs.Keys.{keyForm, boundForm, rangeForm};
 ghost use Rattle.layout.specs.Places.{Here};
 ghost use Rattle.search.specs.Marks.{KindAt, SameKey, InRange};
 use bounds::comparable_range::ComparableRange;
-use bounds::kind::Kind;
+use kinds::kind::Kind;
 use places::skips::bound_past;
 use places::skips::key_past;
 

@@ -8,9 +8,9 @@ use borrow.Author.Tests.{ne-eqb}
 use lib.ListN.{length, drop, getD, length-drop}
 use lib.Seq.{length-take-le}
 use Rattle.keys.specs.Limit.{keyLimit}
-use Rattle.bounds.specs.Bounds.{included, excluded, bound}
-use Rattle.bounds.specs.declared.kind.Kind.{Kind}
-use Rattle.bounds.specs.declared.kind.Kind.the-variants.{Unbounded, Included, Excluded}
+use Rattle.kinds.specs.Bounds.{included, excluded, bound}
+use Rattle.kinds.specs.declared.kind.Kind.{Kind}
+use Rattle.kinds.specs.declared.kind.Kind.the-variants.{Unbounded, Included, Excluded}
 use Rattle.bounds.specs.declared.comparable_range.ComparableRange.{ComparableRange}
 use Rattle.bounds.specs.Ranges.{Range, range, rangeOf, notEmpty, notEmptyPair}
 use Rattle.machine.specs.State.{Bytes, rangeBytes}

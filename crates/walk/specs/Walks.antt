@@ -6,8 +6,8 @@ use mathlib.Core.List.{List}
 use lib.Dec.{eqb}
 use lib.ListN.{length, take, drop}
 use Rattle.keys.specs.Limit.{keyLimit}
-use Rattle.bounds.specs.Bounds.{bound}
-use Rattle.bounds.specs.declared.kind.Kind.{Kind}
+use Rattle.kinds.specs.Bounds.{bound}
+use Rattle.kinds.specs.declared.kind.Kind.{Kind}
 use Rattle.ranges.specs.Making.{keyOf}
 use Rattle.codec.specs.Codec.{Codec, cut}
 use Rattle.layout.specs.Keys.{boundForm, below}

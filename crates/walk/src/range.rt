@@ -7,11 +7,11 @@ ghost use Rattle.walk.specs.Walks.{Walks, BoundIs, asBound};
 use crate::tally::Tally;
 use crate::tally::Walked;
 use bounds::comparable_range::ComparableRange;
-use bounds::kind::Kind;
 use fields::EXCLUDED;
 use fields::INCLUDED;
 use fields::UNBOUNDED;
 use keys::KEY_LIMIT;
+use kinds::kind::Kind;
 
 // The bound at a place: its kind, and where it ends.
 enum BoundAt {

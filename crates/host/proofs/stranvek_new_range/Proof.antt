@@ -1,7 +1,7 @@
 use borrow.Author.Needs.{needs}
 use mathlib.Core.Path.{sym, ap, _∙_}
 use denote.Ref.{now}
-use Rattle.bounds.specs.Bounds.{bound}
+use Rattle.kinds.specs.Bounds.{bound}
 use Rattle.bounds.specs.Ranges.{range}
 use Rattle.ranges.specs.Making.{isDone, newOf, status}
 use Rattle.host.specs.Boundary.{kindAt, kindNumber, rangeAt}

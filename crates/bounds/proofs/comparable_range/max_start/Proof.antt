@@ -1,12 +1,12 @@
 use borrow.Author.Needs.{needs}
 use denote.Ref.{now}
-use Rattle.bounds.specs.Bounds.{bound, startOrder}
+use Rattle.kinds.specs.Bounds.{bound, startOrder}
 use Rattle.keys.proofs.Signs.{on-gt}
 use Rattle.bounds.proofs.comparable_range.max_start.Statement.{statement}
 use Rattle.bounds.proofs.comparable_range.max_start.Tie as tie
 use Rattle.bounds.proofs.comparable_range.max_start.Reads as reads
 use Rattle.bounds.proofs.comparable_range.max_start.Lts as lts
-use Rattle.bounds.proofs.kind.Kind.compare_start.Reads as compare-start-reads
+use Rattle.kinds.proofs.kind.Kind.compare_start.Reads as compare-start-reads
 
 -- src/comparable_range.rt:169:12
 compare-start-requires : tie.Need-compare-start-requires

@@ -8,7 +8,7 @@ use Rattle.ranges.proofs.bytes_range.end_of.Statement.{statement}
 use Rattle.ranges.proofs.bytes_range.end_of.Tie as tie
 use Rattle.ranges.proofs.bytes_range.end_of.Reads as reads
 use Rattle.ranges.proofs.bytes_range.end_of.Lts as lts
-use Rattle.bounds.proofs.kind.Kind.bounded.Reads as bounded-reads
+use Rattle.kinds.proofs.kind.Kind.bounded.Reads as bounded-reads
 use Rattle.ranges.proofs.bytes_range.increment.Reads as increment-reads
 use Rattle.ranges.proofs.bytes_range.joined.Reads as joined-reads
 

@@ -10,7 +10,7 @@ use Rattle.ranges.proofs.bytes_range.joined.Statement.{statement}
 use Rattle.ranges.proofs.bytes_range.joined.Tie as tie
 use Rattle.ranges.proofs.bytes_range.joined.Reads as reads
 use Rattle.ranges.proofs.bytes_range.joined.Lts as lts
-use Rattle.bounds.proofs.kind.Kind.bounded.Reads as bounded-reads
+use Rattle.kinds.proofs.kind.Kind.bounded.Reads as bounded-reads
 use Rattle.ranges.proofs.bytes_range.Made.nothing.Reads as nothing-reads
 use Rattle.ranges.proofs.bytes_range.with_bytes.Reads as with-bytes-reads
 use Rattle.ranges.proofs.bytes_range.zeros.Reads as zeros-reads

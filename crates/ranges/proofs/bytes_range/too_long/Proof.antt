@@ -6,7 +6,7 @@ use Rattle.ranges.proofs.bytes_range.too_long.Statement.{statement}
 use Rattle.ranges.proofs.bytes_range.too_long.Tie as tie
 use Rattle.ranges.proofs.bytes_range.too_long.Reads as reads
 use Rattle.ranges.proofs.bytes_range.too_long.Lts as lts
-use Rattle.bounds.proofs.kind.Kind.bounded.Reads as bounded-reads
+use Rattle.kinds.proofs.kind.Kind.bounded.Reads as bounded-reads
 
 -- src/bytes_range.rt:174:5
 bounded-requires : tie.Need-bounded-requires

@@ -1,14 +1,14 @@
 use borrow.Author.Needs.{needs}
 use mathlib.Core.Path.{_∙_}
 use denote.Ref.{now}
-use Rattle.bounds.specs.Bounds.{bound, startOrder, endOrder}
-use Rattle.bounds.proofs.Ties.{kept-sign, tied, untied}
+use Rattle.kinds.specs.Bounds.{bound, startOrder, endOrder}
+use Rattle.kinds.proofs.Ties.{kept-sign, tied, untied}
 use Rattle.bounds.proofs.comparable_range.ComparableRange.compare.Statement.{statement}
 use Rattle.bounds.proofs.comparable_range.ComparableRange.compare.Tie as tie
 use Rattle.bounds.proofs.comparable_range.ComparableRange.compare.Reads as reads
 use Rattle.bounds.proofs.comparable_range.ComparableRange.compare.Lts as lts
-use Rattle.bounds.proofs.kind.Kind.compare_end.Reads as compare-end-reads
-use Rattle.bounds.proofs.kind.Kind.compare_start.Reads as compare-start-reads
+use Rattle.kinds.proofs.kind.Kind.compare_end.Reads as compare-end-reads
+use Rattle.kinds.proofs.kind.Kind.compare_start.Reads as compare-start-reads
 
 -- src/comparable_range.rt:247:13
 compare-start-requires : tie.Need-compare-start-requires

@@ -4,8 +4,8 @@ use Rattle.bounds.proofs.comparable_range.ComparableRange.contains.Stat
 use Rattle.bounds.proofs.comparable_range.ComparableRange.contains.Tie as tie
 use Rattle.bounds.proofs.comparable_range.ComparableRange.contains.Reads as reads
 use Rattle.bounds.proofs.comparable_range.ComparableRange.contains.Lts as lts
-use Rattle.bounds.proofs.kind.Kind.admits_from.Reads as admits-from-reads
-use Rattle.bounds.proofs.kind.Kind.admits_to.Reads as admits-to-reads
+use Rattle.kinds.proofs.kind.Kind.admits_from.Reads as admits-from-reads
+use Rattle.kinds.proofs.kind.Kind.admits_to.Reads as admits-to-reads
 
 -- src/comparable_range.rt:384:9
 admits-from-requires : tie.Need-admits-from-requires

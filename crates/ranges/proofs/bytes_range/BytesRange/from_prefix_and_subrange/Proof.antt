@@ -2,7 +2,7 @@ use borrow.Author.Needs.{needs}
 use mathlib.Core.Path.{sym, ap, _∙_}
 use native.Mathlib.Omega.{arith}
 use denote.Ref.{now}
-use Rattle.bounds.specs.Bounds.{bound}
+use Rattle.kinds.specs.Bounds.{bound}
 use Rattle.ranges.specs.Prefixes.{subStart, subEnd}
 use Rattle.ranges.proofs.Between.{long-start, long-prefix, sized}
 use Rattle.ranges.proofs.bytes_range.BytesRange.from_prefix_and_subrange.Statement.{

@@ -1,7 +1,7 @@
 use borrow.Author.Needs.{needs}
 use mathlib.Core.Path.{refl, sym, ap, _∙_}
 use denote.Ref.{now}
-use Rattle.bounds.specs.Bounds.{bound}
+use Rattle.kinds.specs.Bounds.{bound}
 use Rattle.bounds.specs.Ranges.{range, notEmptyPair}
 use Rattle.ranges.proofs.MakingLaws.{new-by}
 use Rattle.ranges.proofs.bytes_range.BytesRange.new.Statement.{statement}

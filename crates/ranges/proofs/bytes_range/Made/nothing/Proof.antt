@@ -1,5 +1,5 @@
 use borrow.Author.Needs.{needs}
-use Rattle.bounds.specs.declared.kind.Kind.the-variants.{Unbounded}
+use Rattle.kinds.specs.declared.kind.Kind.the-variants.{Unbounded}
 use Rattle.ranges.specs.Making.{madeOf}
 use Rattle.ranges.proofs.bytes_range.Made.nothing.Statement.{statement}
 use Rattle.ranges.proofs.bytes_range.Made.nothing.Tie as tie

@@ -4,14 +4,14 @@ use mathlib.Core.Path.{_≡_, sym, ap, _∙_}
 use mathlib.Core.Bool.{true, false}
 use denote.Ref.{now}
 use Rattle.keys.specs.Order.{order, sign}
-use Rattle.bounds.specs.Bounds.{isBounded, tieOf}
-use Rattle.bounds.proofs.Ties.{kept-sign, tied, untied, first-open, second-open, both-bounded}
-use Rattle.bounds.proofs.kind.Kind.compare_bound.Statement.{statement}
-use Rattle.bounds.proofs.kind.Kind.compare_bound.Tie as tie
-use Rattle.bounds.proofs.kind.Kind.compare_bound.Reads as reads
-use Rattle.bounds.proofs.kind.Kind.compare_bound.Lts as lts
-use Rattle.bounds.proofs.kind.Kind.bounded.Reads as bounded-reads
-use Rattle.bounds.proofs.kind.Kind.tie_of.Reads as tie-of-reads
+use Rattle.kinds.specs.Bounds.{isBounded, tieOf}
+use Rattle.kinds.proofs.Ties.{kept-sign, tied, untied, first-open, second-open, both-bounded}
+use Rattle.kinds.proofs.kind.Kind.compare_bound.Statement.{statement}
+use Rattle.kinds.proofs.kind.Kind.compare_bound.Tie as tie
+use Rattle.kinds.proofs.kind.Kind.compare_bound.Reads as reads
+use Rattle.kinds.proofs.kind.Kind.compare_bound.Lts as lts
+use Rattle.kinds.proofs.kind.Kind.bounded.Reads as bounded-reads
+use Rattle.kinds.proofs.kind.Kind.tie_of.Reads as tie-of-reads
 use Rattle.keys.proofs.compare.Reads as compare-reads
 
 -- src/comparable_range.rt:84:13

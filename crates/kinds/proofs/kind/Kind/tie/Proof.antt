@@ -1,8 +1,8 @@
 use borrow.Author.Needs.{needs}
-use Rattle.bounds.proofs.kind.Kind.tie.Statement.{statement}
-use Rattle.bounds.proofs.kind.Kind.tie.Tie as tie
-use Rattle.bounds.proofs.kind.Kind.tie.Reads as reads
-use Rattle.bounds.proofs.kind.Kind.tie.Lts as lts
+use Rattle.kinds.proofs.kind.Kind.tie.Statement.{statement}
+use Rattle.kinds.proofs.kind.Kind.tie.Tie as tie
+use Rattle.kinds.proofs.kind.Kind.tie.Reads as reads
+use Rattle.kinds.proofs.kind.Kind.tie.Lts as lts
 
 -- src/comparable_range.rt:50:32
 enum-told : tie.Need-enum-told

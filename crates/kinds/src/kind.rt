@@ -1,7 +1,7 @@
 ghost use mathlib.Core.Path.{_≡_};
 ghost use lib.IntN.{ℤ};
 ghost use Rattle.keys.specs.Order.{sign};
-ghost use Rattle.bounds.specs.Bounds.{bound, isBounded, tie, tieOf, startOrder, endOrder, boundOrder, startAdmits, endAdmits};
+ghost use Rattle.kinds.specs.Bounds.{bound, isBounded, tie, tieOf, startOrder, endOrder, boundOrder, startAdmits, endAdmits};
 
 // What kind of bound a key makes: Rust's `Bound`, with the key in a slice beside it.
 pub enum Kind {

@@ -2,14 +2,14 @@
 -- the laws of the byte order are the laws of bounds.
 use Prim.Native.Nat.{ℕ, _<_, _+_}
 use mathlib.Core.Path.{_≡_, refl, sym, ap, _∙_}
-use mathlib.Core.Bool.{false}
+use mathlib.Core.Bool.{true}
 use mathlib.Core.List.{List, [], _∷_}
 use mathlib.Core.Ordering.{Ordering, lt, eq, gt, then}
 use native.Mathlib.Omega.{arith}
 use Rattle.keys.specs.Order.{order, isLess, isSame, notMore}
+use Rattle.keys.proofs.OrderLaws.{not-more-trans, less-not-more}
 use Rattle.keys.proofs.Heads.{head-less, head-more, head-same, Three, below, equal, above, three}
-use Rattle.bounds.specs.Bounds.{Bound, unbounded, included, excluded, startOrder, endOrder, startAdmits, endAdmits}
-use Rattle.bounds.specs.Ranges.{notEmptyPair, touchesPair}
+use Rattle.kinds.specs.Bounds.{Bound, unbounded, included, excluded, startOrder, endOrder, startAdmits, endAdmits}
 
 -- a key and then a number that is less than every byte's: 0 for just before the key, 1 for just after it
 unfoldable pub marked : ℕ → List ℕ → List ℕ
@@ -50,7 +50,7 @@ module _ (s t : ℕ) (hs : s < 2) (ht : t < 2) where
       go ih (above l) = head-more (x + 2) (y + 2) (marked s a) (marked t b) (omega arith) ∙ ap tie-by (sym (head-more x y a b l))
 
 -- two functions of a comparison's answer are the same if they are so at each answer
-each {ℓ} : {A : Type ℓ} (f g : Ordering → A) → f lt ≡ g lt → f eq ≡ g eq → f gt ≡ g gt → (o : Ordering) → f o ≡ g o
+pub each {ℓ} : {A : Type ℓ} (f g : Ordering → A) → f lt ≡ g lt → f eq ≡ g eq → f gt ≡ g gt → (o : Ordering) → f o ≡ g o
 each f g l e m lt = l
 each f g l e m eq = e
 each f g l e m gt = m
@@ -60,19 +60,19 @@ module _ (a b : List ℕ) where
   unfolding then
   no-tie = each (λ o. then o eq) (λ o. o) refl refl refl (order a b)
 
-  before-before : order a b ≡ order (before a) (before b)
+  pub before-before : order a b ≡ order (before a) (before b)
   unfolding order
   before-before = sym (marked-order 0 0 (omega arith) (omega arith) a b ∙ no-tie)
 
-  before-after : then (order a b) lt ≡ order (before a) (after b)
+  pub before-after : then (order a b) lt ≡ order (before a) (after b)
   unfolding order
   before-after = sym (marked-order 0 1 (omega arith) (omega arith) a b)
 
-  after-before : then (order a b) gt ≡ order (after a) (before b)
+  pub after-before : then (order a b) gt ≡ order (after a) (before b)
   unfolding order
   after-before = sym (marked-order 1 0 (omega arith) (omega arith) a b)
 
-  after-after : order a b ≡ order (after a) (after b)
+  pub after-after : order a b ≡ order (after a) (after b)
   unfolding order
   after-after = sym (marked-order 1 1 (omega arith) (omega arith) a b ∙ no-tie)
 
@@ -100,32 +100,6 @@ end-order (excluded a) unbounded = refl
 end-order (excluded a) (included b) = before-after a b
 end-order (excluded a) (excluded b) = before-before a b
 
--- a pair is not empty if its start cuts before its end does
-pub not-empty : (s e : Bound) → notEmptyPair s e ≡ isLess (order (startCut s) (endCut e))
-unfolding order then
-not-empty unbounded unbounded = refl
-not-empty unbounded (included b) = refl
-not-empty unbounded (excluded b) = refl
-not-empty (included a) unbounded = refl
-not-empty (included a) (included b) = each notMore (λ o. isLess (then o lt)) refl refl refl (order a b) ∙ ap isLess (before-after a b)
-not-empty (included a) (excluded b) = ap isLess (before-before a b)
-not-empty (excluded a) unbounded = refl
-not-empty (excluded a) (included b) = ap isLess (after-after a b)
-not-empty (excluded a) (excluded b) = each isLess (λ o. isLess (then o gt)) refl refl refl (order a b) ∙ ap isLess (after-before a b)
-
--- an end touches a start if both cut at the same place
-pub touching : (e s : Bound) → touchesPair e s ≡ isSame (order (endCut e) (startCut s))
-unfolding order then
-touching unbounded unbounded = refl
-touching unbounded (included b) = refl
-touching unbounded (excluded b) = refl
-touching (included a) unbounded = refl
-touching (included a) (included b) = each (λ o. false) (λ o. isSame (then o gt)) refl refl refl (order a b) ∙ ap isSame (after-before a b)
-touching (included a) (excluded b) = ap isSame (after-after a b)
-touching (excluded a) unbounded = refl
-touching (excluded a) (included b) = ap isSame (before-before a b)
-touching (excluded a) (excluded b) = each (λ o. false) (λ o. isSame (then o lt)) refl refl refl (order a b) ∙ ap isSame (before-after a b)
-
 -- a key lies in a range as the cut before it lies at or after the start's and before the end's
 pub start-admits : (s : Bound) (k : List ℕ) → startAdmits s k ≡ notMore (order (startCut s) (before k))
 unfolding order then
@@ -134,6 +108,19 @@ start-admits (included a) k = ap notMore (before-before a k)
 start-admits (excluded a) k = each isLess (λ o. notMore (then o gt)) refl refl refl (order a k) ∙ ap notMore (after-before a k)
 
 pub end-admits : (e : Bound) (k : List ℕ) → endAdmits e k ≡ isLess (order (before k) (endCut e))
-end-admits unbounded k = not-empty (included k) unbounded
-end-admits (included b) k = not-empty (included k) (included b)
-end-admits (excluded b) k = not-empty (included k) (excluded b)
+unfolding order then
+end-admits unbounded k = refl
+end-admits (included b) k = each notMore (λ o. isLess (then o lt)) refl refl refl (order k b) ∙ ap isLess (before-after k b)
+end-admits (excluded b) k = ap isLess (before-before k b)
+
+module _ (k : List ℕ) where
+  -- a lesser start and a greater end admit all that the other does
+  pub start-wider : (a b : Bound) → notMore (startOrder a b) ≡ true → startAdmits b k ≡ true → startAdmits a k ≡ true
+  start-wider a b h e =
+      start-admits a k
+      ∙ not-more-trans (startCut a) (startCut b) (before k) (ap notMore (sym (start-order a b)) ∙ h) (sym (start-admits b k) ∙ e)
+
+  pub end-wider : (a b : Bound) → notMore (endOrder a b) ≡ true → endAdmits a k ≡ true → endAdmits b k ≡ true
+  end-wider a b h e =
+      end-admits b k
+      ∙ less-not-more (before k) (endCut a) (endCut b) (sym (end-admits a k) ∙ e) (ap notMore (sym (end-order a b)) ∙ h)

@@ -4,8 +4,8 @@ use mathlib.Core.Bool.{Bool, true, false}
 use mathlib.Core.List.{List}
 use mathlib.Core.Ordering.{Ordering, lt, eq, gt, swap, then}
 use Rattle.keys.specs.Order.{order, isLess, notMore}
-use Rattle.bounds.specs.declared.kind.Kind.{Kind}
-use Rattle.bounds.specs.declared.kind.Kind.the-variants.{Unbounded, Included, Excluded}
+use Rattle.kinds.specs.declared.kind.Kind.{Kind}
+use Rattle.kinds.specs.declared.kind.Kind.the-variants.{Unbounded, Included, Excluded}
 
 -- Rust's page on `Bound`, "An endpoint of a range of keys": an inclusive bound, an exclusive bound, an infinite endpoint
 pub data Bound : Type 0 where

@@ -2,15 +2,13 @@
 use Prim.Native.Nat.{ℕ}
 use mathlib.Core.Path.{_≡_, refl, sym, ap, _∙_}
 use mathlib.Core.Logic.{_↔_}
-use mathlib.Core.Bool.{Bool, true, false, cond}
+use mathlib.Core.Bool.{Bool, true, false}
 use mathlib.Core.List.{List}
-use mathlib.Core.Ordering.{Ordering, lt, eq, gt, swap, then, lt≢eq, gt≢eq, gt≢lt}
+use mathlib.Core.Ordering.{Ordering, lt, eq, gt, swap, then, lt≢eq, gt≢eq}
 use Rattle.keys.specs.Order.{order, isMore, notMore}
 use Rattle.keys.proofs.OrderLaws.{order-refl, order-eq, order-swap, order-trans}
-use Rattle.bounds.specs.declared.comparable_range.Side.the-variants.{First, Second}
-use Rattle.bounds.specs.Bounds.{Bound, unbounded, included, excluded, startOrder, endOrder}
-use Rattle.bounds.specs.Ranges.{Range, range, sided, rangeOrder}
-use Rattle.bounds.proofs.Cuts.{startCut, endCut, start-order, end-order}
+use Rattle.kinds.specs.Bounds.{Bound, unbounded, included, excluded, startOrder, endOrder}
+use Rattle.kinds.proofs.Cuts.{startCut, endCut, start-order, end-order}
 
 -- a comparison that answers eq exactly for equals, the opposite the other way round, and passes "less" on
 pub record IsTotal {A : Type 0} (compare : A → A → Ordering) : Type 0 where
@@ -62,45 +60,6 @@ start-total = total-by-cuts startOrder startCut start-order start-same
 pub end-total : IsTotal endOrder
 end-total = total-by-cuts endOrder endCut end-order end-same
 
--- and so is the order of ranges, by start and then by end
-range-same : (a b : Range) → rangeOrder a b ≡ eq → a ≡ b
-range-same a b e =
-    let t = both-tie (startOrder (a .start) (b .start)) (endOrder (a .end) (b .end)) e in
-    let p = start-total .same (a .start) (b .start) .0 (t .0) in
-    let q = end-total .same (a .end) (b .end) .0 (t .1) in
-    λ i. range (p i) (q i)
-
-range-refl : (a : Range) → rangeOrder a a ≡ eq
-unfolding then
-range-refl a = rw (start-total .same (a .start) (a .start) .1 refl) (end-total .same (a .end) (a .end) .1 refl)
-
-range-swap : (a b : Range) → rangeOrder b a ≡ swap (rangeOrder a b)
-unfolding then swap
-range-swap a b = rw (start-total .swapped (a .start) (b .start), end-total .swapped (a .end) (b .end)) (go (startOrder (a .start) (b .start)) (endOrder (a .end) (b .end)))
-  where
-    go : (o p : Ordering) → then (swap o) (swap p) ≡ swap (then o p)
-    go lt p = refl
-    go eq p = refl
-    go gt p = refl
-
-range-trans : (a b c : Range) → rangeOrder a b ≡ lt → rangeOrder b c ≡ lt → rangeOrder a c ≡ lt
-unfolding then
-range-trans a b c h k = go (startOrder (a .start) (b .start)) refl (startOrder (b .start) (c .start)) refl
-  where
-    go : (o : Ordering) → startOrder (a .start) (b .start) ≡ o → (p : Ordering) → startOrder (b .start) (c .start) ≡ p → rangeOrder a c ≡ lt
-    go lt d lt e = rw (start-total .trans (a .start) (b .start) (c .start) d e)
-    go lt d eq e = rw (← start-total .same (b .start) (c .start) .0 e, d)
-    go lt d gt e = absurd (gt≢lt (rw e at k))
-    go eq d lt e = rw (start-total .same (a .start) (b .start) .0 d, e)
-    go eq d eq e =
-        rw (start-total .same (a .start) (b .start) .0 d, e) (end-total .trans (a .end) (b .end) (c .end) (rw d at h) (rw e at k))
-    go eq d gt e = absurd (gt≢lt (rw e at k))
-    go gt d p e = absurd (gt≢lt (rw d at h))
-
-pub range-total : IsTotal rangeOrder
-range-total =
-    record { same = λ a b. (range-same a b, λ e. rw e (range-refl b)); swapped = range-swap; trans = range-trans }
-
 module _ {A : Type 0} {compare : A → A → Ordering} (total : IsTotal compare) where
   pub at-itself : (a : A) → notMore (compare a a) ≡ true
   at-itself a = ap notMore (total .same a a .1 refl)
@@ -114,16 +73,6 @@ module _ {A : Type 0} {compare : A → A → Ordering} (total : IsTotal compare)
       go lt p e l m = l refl
       go eq p e l m = l refl
       go gt p e l m = m (ap notMore e)
-
-  -- the greater and the lesser of two, picked as the definitions do
-  pub greater-first : (a b : A) → notMore (compare a (sided (cond (isMore (compare a b)) First Second) a b)) ≡ true
-  greater-first a b = by-more a b (λ t. notMore (compare a (sided (cond t First Second) a b)) ≡ true) (λ l. at-itself a) (λ l. l)
-
-  pub greater-second : (a b : A) → notMore (compare b (sided (cond (isMore (compare a b)) First Second) a b)) ≡ true
-  greater-second a b = by-more a b (λ t. notMore (compare b (sided (cond t First Second) a b)) ≡ true) (λ l. l) (λ l. at-itself b)
-
-  pub lesser-first : (a b : A) → notMore (compare (sided (cond (isMore (compare a b)) Second First) a b) a) ≡ true
-  lesser-first a b = by-more a b (λ t. notMore (compare (sided (cond t Second First) a b) a) ≡ true) (λ l. l) (λ l. at-itself a)
 
   -- what is picked of two by their comparison does not depend on which one stands first
   pub either-way : (a b : A) (pick : Ordering → A → A → A) → ((x y : A) → pick gt x y ≡ pick lt y x) → pick (compare a b) a b ≡ pick (compare b a) b a

@@ -10,9 +10,9 @@ use mir.Syntax.{w8}
 use mir.Facts.{sfits-lit}
 use mir.Val.{toZ, ofZ, SFits}
 use Rattle.keys.specs.Order.{order, sign}
-use Rattle.bounds.specs.declared.kind.Kind.{Kind}
-use Rattle.bounds.specs.declared.kind.Kind.the-variants.{Unbounded, Included, Excluded}
-use Rattle.bounds.specs.Bounds.{bound, isBounded, tie, tieOf, boundOrder}
+use Rattle.kinds.specs.declared.kind.Kind.{Kind}
+use Rattle.kinds.specs.declared.kind.Kind.the-variants.{Unbounded, Included, Excluded}
+use Rattle.kinds.specs.Bounds.{bound, isBounded, tie, tieOf, boundOrder}
 
 same-then : (o : Ordering) → then o eq ≡ o
 unfolding then

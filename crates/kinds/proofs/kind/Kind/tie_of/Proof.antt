@@ -1,11 +1,11 @@
 use borrow.Author.Needs.{needs}
-use Rattle.bounds.specs.Bounds.{tie}
-use Rattle.bounds.proofs.Ties.{kept-sign, negated-sign, negated-fits}
-use Rattle.bounds.proofs.kind.Kind.tie_of.Statement.{statement}
-use Rattle.bounds.proofs.kind.Kind.tie_of.Tie as tie
-use Rattle.bounds.proofs.kind.Kind.tie_of.Reads as reads
-use Rattle.bounds.proofs.kind.Kind.tie_of.Lts as lts
-use Rattle.bounds.proofs.kind.Kind.tie.Reads as tie-reads
+use Rattle.kinds.specs.Bounds.{tie}
+use Rattle.kinds.proofs.Ties.{kept-sign, negated-sign, negated-fits}
+use Rattle.kinds.proofs.kind.Kind.tie_of.Statement.{statement}
+use Rattle.kinds.proofs.kind.Kind.tie_of.Tie as tie
+use Rattle.kinds.proofs.kind.Kind.tie_of.Reads as reads
+use Rattle.kinds.proofs.kind.Kind.tie_of.Lts as lts
+use Rattle.kinds.proofs.kind.Kind.tie.Reads as tie-reads
 
 -- src/comparable_range.rt:99:13
 tie-requires : tie.Need-tie-requires
