@@ -10,9 +10,9 @@ use Rattle.keys.specs.Order.{sign}
 use Rattle.kinds.proofs.Ties.{kept-sign}
 use Rattle.host.specs.declared.answers.Compared.{Compared}
 use Rattle.kinds.specs.declared.kind.Kind.{Kind}
-use Rattle.ranges.specs.declared.bytes_range.Making.{Making}
-use Rattle.ranges.specs.declared.bytes_range.Making.the-variants.{Done, TooLong, Empty}
-use Rattle.ranges.specs.Making.{isDone, status}
+use Rattle.made.specs.declared.Making.{Making}
+use Rattle.made.specs.declared.Making.the-variants.{Done, TooLong, Empty}
+use Rattle.made.specs.Making.{isDone, status}
 use Rattle.host.specs.declared.answers.NewRange.{NewRange}
 use Rattle.host.specs.Boundary.{kindNumber, compared, newRange}
 

@@ -14,12 +14,12 @@ use Rattle.bounds.specs.declared.comparable_range.Combined.the-variants.{Of, No
 use Rattle.bounds.specs.declared.comparable_range.ComparableRange.{ComparableRange}
 use Rattle.kinds.specs.Bounds.{Bound, bound}
 use Rattle.bounds.specs.Ranges.{Range, range, sided}
-use Rattle.ranges.specs.declared.bytes_range.Making.{Making}
-use Rattle.ranges.specs.declared.bytes_range.Making.the-variants.{Done, TooLong, Empty}
-use Rattle.ranges.specs.declared.bytes_range.MadeBound.{MadeBound}
-use Rattle.ranges.specs.declared.bytes_range.Made.{Made}
+use Rattle.made.specs.declared.Making.{Making}
+use Rattle.made.specs.declared.Making.the-variants.{Done, TooLong, Empty}
+use Rattle.made.specs.declared.MadeBound.{MadeBound}
+use Rattle.made.specs.declared.Made.{Made}
 use Rattle.ranges.specs.declared.bytes_range.MadeRange.{MadeRange}
-use Rattle.ranges.specs.Making.{status}
+use Rattle.made.specs.Making.{status}
 use Rattle.host.specs.declared.answers.Compared.{Compared}
 use Rattle.host.specs.declared.answers.Told.{Told}
 use Rattle.host.specs.declared.answers.Pair.{Pair}

@@ -1,15 +1,15 @@
 // What crosses the boundary, beside its calls: the structs that the host reads, and numbers for kinds, sides and statuses.
 ghost use mathlib.Core.Path.{_≡_};
-ghost use Rattle.ranges.specs.Making.{status};
+ghost use Rattle.made.specs.Making.{status};
 ghost use Rattle.host.specs.Boundary.{kindAt, kindsAt, kindNumber, sideNumber, paired, key, madeKeys};
 use bounds::comparable_range::Combined;
 use bounds::comparable_range::ComparableRange;
 use bounds::comparable_range::Side;
 use keys::KEY_LIMIT;
 use kinds::kind::Kind;
-use ranges::bytes_range::MadeBound;
+use made::MadeBound;
+use made::Making;
 use ranges::bytes_range::MadeRange;
-use ranges::bytes_range::Making;
 
 pub const UNBOUNDED: u8 = 0x10;
 

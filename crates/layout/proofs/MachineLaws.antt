@@ -13,7 +13,7 @@ use lib.ListN.{length}
 use Rattle.keys.specs.Order.{order, isLess}
 use Rattle.kinds.specs.Bounds.{Bound, unbounded, included, excluded}
 use Rattle.bounds.specs.Ranges.{Range, notEmpty}
-use Rattle.ranges.specs.Making.{keyOf, kindOf}
+use Rattle.made.specs.Making.{keyOf, kindOf}
 use Rattle.fields.specs.Forms.{boundTag}
 use Rattle.machine.specs.Lists.{sum, All}
 use Rattle.machine.specs.State.{Bytes, Txn, Entry, State, Ceilings, base, fits, Fits, Above, Ascends, ids, SetOk, RangeOk, TxnOk, EntryOk, MachineState, marks, txnMarks, entryMarks}

@@ -11,7 +11,8 @@ use Rattle.bounds.specs.declared.comparable_range.Side.the-variants.{First, Sec
 use Rattle.bounds.specs.declared.comparable_range.Combined.the-variants.{Of, Nothing}
 use Rattle.kinds.specs.Bounds.{unbounded, included, excluded}
 use Rattle.bounds.specs.Ranges.{Range, range, holds, notEmpty, touches, unionOf}
-use Rattle.ranges.specs.Making.{newOf, status}
+use Rattle.made.specs.Making.{status}
+use Rattle.ranges.specs.Making.{newOf}
 use Rattle.ranges.specs.Prefixes.{increment, subrangeOf}
 use Rattle.machine.specs.State.{Bytes, State, base}
 use Rattle.machine.specs.Calls.{Room, holding, on, check, commit, dropTxn, minimum, replied}

@@ -1,74 +1,23 @@
 ghost use mathlib.Core.Path.{_≡_};
-ghost use mathlib.Core.List.{[], _++_};
-ghost use Prim.Native.Nat.{_+_, _≤_, _<_, _-_};
+ghost use Prim.Native.Nat.{_≤_, _<_, _-_};
 ghost use lib.ListN.{length, getD};
-ghost use lib.Seq.{paste};
 ghost use Rattle.keys.specs.Limit.{keyLimit};
 ghost use Rattle.kinds.specs.Bounds.{Bound, bound, unbounded};
 ghost use Rattle.bounds.specs.Ranges.{range, rangeOf, everything, holds, isPoint};
 ghost use Rattle.ranges.specs.Prefixes.{increment, Raises, endAt, prefixRange, subrangeOf, subStart, subEnd};
-ghost use Rattle.ranges.specs.Making.{Sized, isDone, tooLong, newOf, padded, made, madeBound, madeIncrement, madeRange, madeAs};
+ghost use Rattle.made.specs.Making.{Sized, tooLong, made, madeBound};
+ghost use Rattle.ranges.specs.Making.{newOf, madeIncrement, madeRange, madeAs};
 use bounds::comparable_range::ComparableRange;
 use keys::KEY_LIMIT;
 use kinds::kind::Kind;
-
-// How the making of a range or of a key ended: document 01's statuses 0, 4 and 5.
-pub enum Making {
-    Done,
-    TooLong,
-    Empty,
-}
-
-impl Making {
-    pub fn is_done(self) -> bool
-        ensures { λ r. ⌜ r ≡ isDone self ⌝ }
-    {
-        match self {
-            Making::Done => true,
-            Making::TooLong => false,
-            Making::Empty => false,
-        }
-    }
-}
-
-// A bound whose key was made: the first len of the bytes, with zeros after them.
-pub struct MadeBound {
-    pub kind: Kind,
-    pub len: usize,
-    pub bytes: [u8; KEY_LIMIT],
-}
-
-pub struct Made {
-    pub making: Making,
-    pub bound: MadeBound,
-}
+use made::Made;
+use made::MadeBound;
+use made::Making;
 
 pub struct MadeRange {
     pub making: Making,
     pub start: MadeBound,
     pub end: MadeBound,
-}
-
-// A made key of no bytes.
-fn zeros() -> [u8; KEY_LIMIT]
-    ensures { λ r. ⌜ r ≡ padded [] ⌝ }
-{
-    [0u8; KEY_LIMIT]
-}
-
-impl Made {
-    // Refused, or none: unbounded, with length 0.
-    fn nothing(making: Making) -> Self
-        ensures { λ r. ⌜ r ≡ made making unbounded ⌝ }
-    {
-        let bytes = zeros();
-        let bound = MadeBound {
-            kind: Kind::UNBOUNDED,
-            len: 0,
-            bytes,
-        };
-        Made { making, bound }
-    }
 }
 
 impl MadeRange {
@@ -114,52 +63,12 @@ impl MadeRange {
     }
 }
 
-// The bytes with those of src put at a place.
-fn with_bytes(bytes: [u8; KEY_LIMIT], at: usize, src: &[u8]) -> [u8; KEY_LIMIT]
-    requires { ⌜ at + length (now src) ≤ keyLimit ⌝ }
-    ensures { λ r. ⌜ r ≡ paste bytes at (now (src .entry)) (length (now (src .entry))) ⌝ }
-{
-    let mut out = bytes;
-    let mut i = 0;
-    while i < src.len() {
-        out[at + i] = src[i];
-        i += 1;
-    }
-    out
-}
-
-// The bound of a key that is a prefix and what stands after it.
-fn joined(kind: Kind, prefix: &[u8], suffix: &[u8]) -> Made
-    ensures { λ r. ⌜ r ≡ madeBound (bound kind (now (prefix .entry) ++ now (suffix .entry))) ⌝ }
-{
-    if !kind.bounded() {
-        return Made::nothing(Making::Done);
-    }
-    if KEY_LIMIT < prefix.len() {
-        return Made::nothing(Making::TooLong);
-    }
-    if KEY_LIMIT - prefix.len() < suffix.len() {
-        return Made::nothing(Making::TooLong);
-    }
-    let front = with_bytes(zeros(), 0, prefix);
-    let bytes = with_bytes(front, prefix.len(), suffix);
-    let bound = MadeBound {
-        kind,
-        len: prefix.len() + suffix.len(),
-        bytes,
-    };
-    Made {
-        making: Making::Done,
-        bound,
-    }
-}
-
 // The increment of a prefix whose last byte is not ff.
 fn raised(prefix: &[u8]) -> Made
     requires { ⌜ (length (now prefix) ≤ keyLimit) × (0 < length (now prefix)) × (getD (now prefix) (length (now prefix) - 1) 0 < 255) ⌝ }
     ensures { λ r. ⌜ r ≡ made Making.Done (endAt (increment (now (prefix .entry)))) ⌝ }
 {
-    let mut bytes = with_bytes(zeros(), 0, prefix);
+    let mut bytes = made::with_bytes(made::zeros(), 0, prefix);
     let last = prefix.len() - 1;
     bytes[last] = prefix[last] + 1;
     let bound = MadeBound {
@@ -204,12 +113,12 @@ fn start_of(prefix: &[u8], start: Kind, suffix: &[u8]) -> Made
     ensures { λ r. ⌜ r ≡ madeBound (subStart (now (prefix .entry)) (bound start (now (suffix .entry)))) ⌝ }
 {
     if start.bounded() {
-        return joined(start, prefix, suffix);
+        return made::joined(start, prefix, suffix);
     }
     if prefix.len() == 0 {
         return Made::nothing(Making::Done);
     }
-    joined(Kind::Included, prefix, &suffix[..0])
+    made::joined(Kind::Included, prefix, &suffix[..0])
 }
 
 // The end of a prefix's subrange: unbounded is up to the prefix's increment.
@@ -218,7 +127,7 @@ fn end_of(prefix: &[u8], end: Kind, suffix: &[u8]) -> Made
     ensures { λ r. ⌜ r ≡ madeBound (subEnd (now (prefix .entry)) (bound end (now (suffix .entry)))) ⌝ }
 {
     if end.bounded() {
-        return joined(end, prefix, suffix);
+        return made::joined(end, prefix, suffix);
     }
     increment(prefix)
 }

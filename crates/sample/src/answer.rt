@@ -10,9 +10,9 @@ use crate::text::put_test;
 use bounds::comparable_range::Combined;
 use bounds::comparable_range::ComparableRange;
 use keys::KEY_LIMIT;
+use made::Made;
+use made::MadeBound;
 use ranges::bytes_range::BytesRange;
-use ranges::bytes_range::Made;
-use ranges::bytes_range::MadeBound;
 use ranges::bytes_range::MadeRange;
 
 // The four keys and the kinds of r and s are those of the query's fields, in their order.

@@ -8,7 +8,7 @@ use lib.ListN.{length, take, drop}
 use Rattle.keys.specs.Limit.{keyLimit}
 use Rattle.kinds.specs.Bounds.{bound}
 use Rattle.kinds.specs.declared.kind.Kind.{Kind}
-use Rattle.ranges.specs.Making.{keyOf}
+use Rattle.made.specs.Making.{keyOf}
 use Rattle.codec.specs.Codec.{Codec, cut}
 use Rattle.layout.specs.Keys.{boundForm, below}
 use Rattle.layout.specs.Places.{Part}

@@ -1,6 +1,6 @@
 use borrow.Author.Needs.{needs}
 use mathlib.Core.Path.{sym, ap, _∙_}
-use Rattle.ranges.specs.Making.{status}
+use Rattle.made.specs.Making.{status}
 use Rattle.host.specs.Boundary.{key}
 use Rattle.host.proofs.stranvek_increment_prefix.Statement.{statement}
 use Rattle.host.proofs.stranvek_increment_prefix.Tie as tie

@@ -3,7 +3,8 @@ use mathlib.Core.Path.{sym, ap, _∙_}
 use denote.Ref.{now}
 use Rattle.kinds.specs.Bounds.{bound}
 use Rattle.bounds.specs.Ranges.{range}
-use Rattle.ranges.specs.Making.{isDone, newOf, status}
+use Rattle.made.specs.Making.{isDone, status}
+use Rattle.ranges.specs.Making.{newOf}
 use Rattle.host.specs.Boundary.{kindAt, kindNumber, rangeAt}
 use Rattle.host.proofs.AnswerLaws.{bounded, new-done, new-refused}
 use Rattle.host.proofs.stranvek_new_range.Statement.{statement}
@@ -14,7 +15,7 @@ use Rattle.host.proofs.answers.kind_at.Reads as kind-at-reads
 use Rattle.host.proofs.answers.number_of.Reads as number-of-reads
 use Rattle.host.proofs.answers.status_of.Reads as status-of-reads
 use Rattle.ranges.proofs.bytes_range.BytesRange.new.Reads as new-reads
-use Rattle.ranges.proofs.bytes_range.Making.is_done.Reads as is-done-reads
+use Rattle.made.proofs.Making.is_done.Reads as is-done-reads
 
 -- src/lib.rt:385:9
 kind-at-requires : tie.Need-kind-at-requires

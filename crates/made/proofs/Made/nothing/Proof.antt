@@ -1,11 +1,11 @@
 use borrow.Author.Needs.{needs}
 use Rattle.kinds.specs.declared.kind.Kind.the-variants.{Unbounded}
-use Rattle.ranges.specs.Making.{madeOf}
-use Rattle.ranges.proofs.bytes_range.Made.nothing.Statement.{statement}
-use Rattle.ranges.proofs.bytes_range.Made.nothing.Tie as tie
-use Rattle.ranges.proofs.bytes_range.Made.nothing.Reads as reads
-use Rattle.ranges.proofs.bytes_range.Made.nothing.Lts as lts
-use Rattle.ranges.proofs.bytes_range.zeros.Reads as zeros-reads
+use Rattle.made.specs.Making.{madeOf}
+use Rattle.made.proofs.Made.nothing.Statement.{statement}
+use Rattle.made.proofs.Made.nothing.Tie as tie
+use Rattle.made.proofs.Made.nothing.Reads as reads
+use Rattle.made.proofs.Made.nothing.Lts as lts
+use Rattle.made.proofs.zeros.Reads as zeros-reads
 
 -- src/bytes_range.rt:52:13
 zeros-requires : tie.Need-zeros-requires

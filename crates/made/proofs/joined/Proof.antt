@@ -5,15 +5,15 @@ use native.Mathlib.Omega.{arith}
 use borrow.Author.Tests.{not-true, not-false}
 use denote.Ref.{now}
 use lib.ListN.{length-append}
-use Rattle.ranges.proofs.MakingLaws.{made-open, made-long, front-bytes, joined-bytes}
-use Rattle.ranges.proofs.bytes_range.joined.Statement.{statement}
-use Rattle.ranges.proofs.bytes_range.joined.Tie as tie
-use Rattle.ranges.proofs.bytes_range.joined.Reads as reads
-use Rattle.ranges.proofs.bytes_range.joined.Lts as lts
+use Rattle.made.proofs.MakingLaws.{made-open, made-long, front-bytes, joined-bytes}
+use Rattle.made.proofs.joined.Statement.{statement}
+use Rattle.made.proofs.joined.Tie as tie
+use Rattle.made.proofs.joined.Reads as reads
+use Rattle.made.proofs.joined.Lts as lts
 use Rattle.kinds.proofs.kind.Kind.bounded.Reads as bounded-reads
-use Rattle.ranges.proofs.bytes_range.Made.nothing.Reads as nothing-reads
-use Rattle.ranges.proofs.bytes_range.with_bytes.Reads as with-bytes-reads
-use Rattle.ranges.proofs.bytes_range.zeros.Reads as zeros-reads
+use Rattle.made.proofs.Made.nothing.Reads as nothing-reads
+use Rattle.made.proofs.with_bytes.Reads as with-bytes-reads
+use Rattle.made.proofs.zeros.Reads as zeros-reads
 
 -- src/bytes_range.rt:91:9
 bounded-requires : tie.Need-bounded-requires

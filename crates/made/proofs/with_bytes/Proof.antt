@@ -5,10 +5,10 @@ use native.Mathlib.Numerals.{add-one}
 use borrow.Author.Needs.{needs}
 use lib.ListN.{length}
 use lib.Seq.{paste, paste-zero, paste-suc}
-use Rattle.ranges.proofs.bytes_range.with_bytes.Statement.{statement}
-use Rattle.ranges.proofs.bytes_range.with_bytes.Tie as tie
-use Rattle.ranges.proofs.bytes_range.with_bytes.Reads as reads
-use Rattle.ranges.proofs.bytes_range.with_bytes.Lts as lts
+use Rattle.made.proofs.with_bytes.Statement.{statement}
+use Rattle.made.proofs.with_bytes.Tie as tie
+use Rattle.made.proofs.with_bytes.Reads as reads
+use Rattle.made.proofs.with_bytes.Lts as lts
 
 abbrev Inv-loop : tie.InvT-loop
 Inv-loop at src out₀ i₀ out i = (i ≤ length src) × (out ≡ paste out₀ at src i)
