@@ -8,10 +8,10 @@ use native.Mathlib.Omega.{arith}
 use borrow.Author.Tests.{eqb-true}
 use lib.Dec.{eqb}
 use lib.ListN.{length, getD}
-use Rattle.bounds.specs.Bounds.{Bound, unbounded, included, excluded}
+use Rattle.kinds.specs.Bounds.{Bound, unbounded, included, excluded}
 use Rattle.bounds.specs.Ranges.{Range, range}
 use Rattle.ranges.specs.Bytes.{Bytes}
-use Rattle.ranges.specs.Making.{keyOf, kindOf}
+use Rattle.made.specs.Making.{keyOf, kindOf}
 use Rattle.fields.specs.Fields.{Field, before, onSome, each, fields, encode, fieldsAs, asBound, pairOf, boundsOf, Writable, AllWritable}
 use Rattle.fields.specs.Forms.{boundTag}
 use Rattle.fields.proofs.Writing.{written-read, read-writable}

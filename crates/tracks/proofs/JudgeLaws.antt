@@ -9,12 +9,12 @@ use lib.Dec.{leb}
 use lib.ListN.{length, take, drop, getD}
 use lib.Seq.{slice, length-slice}
 use Rattle.keys.specs.Limit.{keyLimit}
-use Rattle.bounds.specs.Bounds.{bound}
-use Rattle.bounds.specs.declared.kind.Kind.{Kind}
-use Rattle.bounds.specs.declared.kind.Kind.the-variants.{Unbounded, Included, Excluded}
+use Rattle.kinds.specs.Bounds.{bound}
+use Rattle.kinds.specs.declared.kind.Kind.{Kind}
+use Rattle.kinds.specs.declared.kind.Kind.the-variants.{Unbounded, Included, Excluded}
 use Rattle.bounds.specs.declared.comparable_range.ComparableRange.{ComparableRange}
 use Rattle.bounds.specs.Ranges.{Range, range, rangeOf, notEmpty}
-use Rattle.ranges.specs.Making.{keyOf}
+use Rattle.made.specs.Making.{keyOf}
 use Rattle.fields.specs.declared.Places.{Places}
 use Rattle.fields.specs.Fields.{boundsOf}
 use Rattle.fields.specs.Forms.{BoundsAt, NoBoundsIn}
