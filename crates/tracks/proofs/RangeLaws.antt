@@ -121,24 +121,21 @@ module _ {s : Bytes} {v : View} (n : Seen s v) (id bs : Bytes) where
         abbrev one : Txn
         one = here n f .one
 
-        pub range-full : (v .marks ≡ 1024) ⊎ (32768 - v .bytes < k) → Served s (on (trackRange id bs)) 6 0 s
+        pub range-full : (1024 ≤ v .marks) ⊎ (32768 - v .bytes < k) → Served s (on (trackRange id bs)) 6 0 s
         range-full w =
             refuse s (n .state) (trackRange id bs) (loaded n) full
             (tracks ∙ track-full base (n .state) id (addRange (said .r)) one (addRange (said .r) one) 1 (rangeBytes (said .r)) (found n f) refl refl (one-mark (said .r) one) (its-bytes (said .r) one) (held n .kept) (passed w))
           where
-            passed : (v .marks ≡ 1024) ⊎ (32768 - v .bytes < k) → (base .marks < marks (n .state) + 1) ⊎ (base .bytes < keyBytes (n .state) + rangeBytes (said .r))
+            passed : (1024 ≤ v .marks) ⊎ (32768 - v .bytes < k) → (base .marks < marks (n .state) + 1) ⊎ (base .bytes < keyBytes (n .state) + rangeBytes (said .r))
             passed (inl x) = inl (omega (arith, x, n .marks))
             passed (inr x) = inr (omega (arith, x, n .bytes, within n, good .2))
 
-        module _ (small : (i : ℕ) → getD bs i 0 < 256) (hm : v .marks ≡ 1024 → ⊥) (hb : k ≤ 32768 - v .bytes) where
+        module _ (small : (i : ℕ) → getD bs i 0 < 256) (hm : v .marks < 1024) (hb : k ≤ 32768 - v .bytes) where
           written : bs ≡ rangeForm (base .key) .write (said .r)
           written = bounds-record (base .key) bs (said .r) small (said .is)
 
-          one-left : v .marks < 1024
-          one-left = omega (arith, within n, hm)
-
           fits : v .used + length bs ≤ roomSize base
-          fits = omega (arith, ap length written, range-length (base .key) (said .r), space-left n, one-left, good .2, hb)
+          fits = omega (arith, ap length written, range-length (base .key) (said .r), space-left n, hm, good .2, hb)
 
           pub appendable : Appendable s (v .used) p q bs
           appendable =
@@ -155,7 +152,7 @@ module _ {s : Bytes} {v : View} (n : Seen s v) (id bs : Bytes) where
               ends : AppendedTo s (v .used) q bs s' one → Served s (on (trackRange id bs)) 0 1 s'
               ends o =
                   let t' : Txn = addRange (said .r) one in
-                  let e = track-done base (n .state) id (addRange (said .r)) one t' 1 (rangeBytes (said .r)) (found n f) refl refl (one-mark (said .r) one) (its-bytes (said .r) one) (held n .kept) (omega (arith, n .marks, one-left)) (omega (arith, n .bytes, within n, good .2, hb)) in
+                  let e = track-done base (n .state) id (addRange (said .r)) one t' 1 (rangeBytes (said .r)) (found n f) refl refl (one-mark (said .r) one) (its-bytes (said .r) one) (held n .kept) (omega (arith, n .marks, hm)) (omega (arith, n .bytes, within n, good .2, hb)) in
                   let pe = part-end (txnForm (base .key)) (here n f .part) in
                   let ee : q ≡ 20 + (length (entriesOf (n .state .entries)) + length (activeOf (here n f .front))) + length (txnForm (base .key) .write one) = omega (arith, pe, place n f) in
                   let ea : o .at ≡ 20 + (length (entriesOf (n .state .entries)) + length (activeOf (here n f .front))) + length (beforeRanges one) = omega (arith, ee, split-length one, part-end (rangesForm (base .key)) (o .ranges)) in

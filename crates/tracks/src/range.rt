@@ -83,7 +83,7 @@ pub fn track_range(room: &mut [u8], v: View, id: &[u8], bounds: &[u8]) -> Answer
     match check_range(bounds) {
         Judged::Good(size) => match find_txn(room, middle, active, id) {
             Place::Here { at, end } => {
-                if marks == MARK_LIMIT || BYTE_LIMIT - bytes < size {
+                if MARK_LIMIT <= marks || BYTE_LIMIT - bytes < size {
                     return Answer::FULL;
                 }
                 append_range(room, used, at, end, bounds);

@@ -56,11 +56,11 @@ set-at-requires c κs = txn-here (c .before .before .before .before .before .bef
 
 -- src/lib.rt:101:55
 sub-grow-set : tie.Need-sub-grow-set
-sub-grow-set c = within (c .before .before .before .before .before .before .before .before .before .before .before .before .before .before .before .pre) .0
+sub-grow-set c = omega (arith, within (c .before .before .before .before .before .before .before .before .before .before .before .before .before .before .before .pre))
 
 -- src/lib.rt:101:75
 sub-grow-set-2 : tie.Need-sub-grow-set-2
-sub-grow-set-2 c = within (c .before .before .before .before .before .before .before .before .before .before .before .before .before .before .before .pre) .1
+sub-grow-set-2 c = omega (arith, within (c .before .before .before .before .before .before .before .before .before .before .before .before .before .before .before .pre))
 
 -- src/lib.rt:101:23
 grow-set-requires : tie.Need-grow-set-requires

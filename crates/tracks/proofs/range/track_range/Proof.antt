@@ -64,11 +64,11 @@ same-length c = search needs
 
 -- src/range.rt:87:21
 returns-2 : tie.Need-returns-2
-returns-2 c = range-full (c .before .before .before .before .before .before .before .before .before .before .before .before .before .before .pre) (now (c .before .before .before .before .before .before .before .before .before .before .before .before .before .before .args .id)) (now (c .before .before .before .before .before .before .before .before .before .before .before .before .before .before .args .bounds)) (is-id (c .before .before .before .before .before .before .before .before .before .before)) (good (c .before .before .before .before .before .before .before)) (found (c .before .before)) (⊎-map (λ z. z .taken) (λ z. ltb-true _ _ (z .1 .taken)) (c .if2 .came))
+returns-2 c = range-full (c .before .before .before .before .before .before .before .before .before .before .before .before .before .before .pre) (now (c .before .before .before .before .before .before .before .before .before .before .before .before .before .before .args .id)) (now (c .before .before .before .before .before .before .before .before .before .before .before .before .before .before .args .bounds)) (is-id (c .before .before .before .before .before .before .before .before .before .before)) (good (c .before .before .before .before .before .before .before)) (found (c .before .before)) (⊎-map (λ z. omega (arith, z .taken)) (λ z. ltb-true _ _ (z .1 .taken)) (c .if2 .came))
 
 -- src/range.rt:89:17
 append-range-requires : tie.Need-append-range-requires
-append-range-requires c κs = appendable (c .before .before .before .before .before .before .before .before .before .before .before .before .before .before .before .before .pre) (now (c .before .before .before .before .before .before .before .before .before .before .before .before .before .before .before .before .args .id)) (now (c .before .before .before .before .before .before .before .before .before .before .before .before .before .before .before .before .args .bounds)) (is-id (c .before .before .before .before .before .before .before .before .before .before .before .before)) (good (c .before .before .before .before .before .before .before .before .before)) (found (c .before .before .before .before)) (small (c .before .before .before .before .before .before .before .before .before .before .before .before)) (c .before .before .if2 .left) (ltb-false _ _ (c .before .if3 .left))
+append-range-requires c κs = appendable (c .before .before .before .before .before .before .before .before .before .before .before .before .before .before .before .before .pre) (now (c .before .before .before .before .before .before .before .before .before .before .before .before .before .before .before .before .args .id)) (now (c .before .before .before .before .before .before .before .before .before .before .before .before .before .before .before .before .args .bounds)) (is-id (c .before .before .before .before .before .before .before .before .before .before .before .before)) (good (c .before .before .before .before .before .before .before .before .before)) (found (c .before .before .before .before)) (small (c .before .before .before .before .before .before .before .before .before .before .before .before)) (omega (arith, c .before .before .if2 .left)) (ltb-false _ _ (c .before .if3 .left))
 
 -- src/range.rt:90:17
 same-length-2 : tie.Need-same-length-2
@@ -76,7 +76,7 @@ same-length-2 c = search needs
 
 -- src/range.rt:90:17
 returns-3 : tie.Need-returns-3
-returns-3 c = range-done (c .before .before .before .before .before .before .before .before .before .before .before .before .before .before .before .before .before .before .before .pre) (now (c .before .before .before .before .before .before .before .before .before .before .before .before .before .before .before .before .before .before .before .args .id)) (now (c .before .before .before .before .before .before .before .before .before .before .before .before .before .before .before .before .before .before .before .args .bounds)) (is-id (c .before .before .before .before .before .before .before .before .before .before .before .before .before .before .before)) (good (c .before .before .before .before .before .before .before .before .before .before .before .before)) (found (c .before .before .before .before .before .before .before)) (small (c .before .before .before .before .before .before .before .before .before .before .before .before .before .before .before)) (c .before .before .before .before .before .if2 .left) (ltb-false _ _ (c .before .before .before .before .if3 .left)) (c .before .before .append-range .ensures)
+returns-3 c = range-done (c .before .before .before .before .before .before .before .before .before .before .before .before .before .before .before .before .before .before .before .pre) (now (c .before .before .before .before .before .before .before .before .before .before .before .before .before .before .before .before .before .before .before .args .id)) (now (c .before .before .before .before .before .before .before .before .before .before .before .before .before .before .before .before .before .before .before .args .bounds)) (is-id (c .before .before .before .before .before .before .before .before .before .before .before .before .before .before .before)) (good (c .before .before .before .before .before .before .before .before .before .before .before .before)) (found (c .before .before .before .before .before .before .before)) (small (c .before .before .before .before .before .before .before .before .before .before .before .before .before .before .before)) (omega (arith, c .before .before .before .before .before .if2 .left)) (ltb-false _ _ (c .before .before .before .before .if3 .left)) (c .before .before .append-range .ensures)
 
 -- src/range.rt:92:33
 enum-told : tie.Need-enum-told
