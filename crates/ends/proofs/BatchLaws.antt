@@ -1,5 +1,5 @@
 -- How a batch ends.
-use Prim.Native.Nat.{ℕ, _+_, _-_, _*_, _≤_, _<_, _^_, max}
+use Prim.Native.Nat.{ℕ, _+_, _-_, _≤_, _<_, _^_, max}
 use mathlib.Core.Path.{_≡_, refl, sym, ap, _∙_, subst}
 use mathlib.Core.Bool.{Bool, true, false, cond}
 use mathlib.Core.List.{List, [], _∷_, _++_}
@@ -13,7 +13,7 @@ use Rattle.fields.specs.Fields.{keyList}
 use Rattle.fields.specs.Forms.{shortKeys, formOf}
 use Rattle.fields.specs.declared.Form.{Form}
 use Rattle.machine.specs.Lists.{sum}
-use Rattle.machine.specs.State.{Bytes, Txn, Entry, State, base, MachineState, marks, keyBytes, setBytes}
+use Rattle.machine.specs.State.{Bytes, Entry, State, base, MachineState, marks, keyBytes, setBytes}
 use Rattle.machine.specs.Sets.{insertAll}
 use Rattle.machine.specs.Serve.{state, entry, answer, serve}
 use Rattle.machine.specs.Calls.{Op, Answer, on, batch, holding, reply, malformed, long, full, done}
@@ -25,7 +25,7 @@ use Rattle.codec.proofs.NumberLaws.{length-number}
 use Rattle.moves.specs.Splices.{Spliced}
 use Rattle.layout.specs.Keys.{setForm}
 use Rattle.layout.specs.Records.{headForm, entryForm}
-use Rattle.layout.specs.States.{plainForm, roomSize}
+use Rattle.layout.specs.States.{roomSize}
 use Rattle.layout.specs.Rooms.{Served}
 use Rattle.layout.proofs.RowLaws.{write-append}
 use Rattle.layout.proofs.SizeLaws.{set-length, entry-length, state-length, fits-size}
@@ -35,11 +35,11 @@ use Rattle.room.specs.Views.{Seen}
 use Rattle.drafts.specs.declared.Drafted.{Drafted}
 use Rattle.drafts.specs.Drafts.{Begun, SetStands, DraftedIs}
 use Rattle.edits.specs.Edits.{freshHead}
-use Rattle.edits.proofs.LaidLaws.{Laid, entriesOf, activeOf, laid-used, laid-entries}
+use Rattle.edits.proofs.LaidLaws.{entriesOf, laid-used, laid-entries}
 use Rattle.oracle.specs.Advance.{Advanced}
-use Rattle.answers.proofs.ChangeLaws.{relaid, laid-enter, fresh-changed}
+use Rattle.answers.proofs.ChangeLaws.{laid-enter, fresh-changed}
 use Rattle.answers.proofs.EnterLaws.{batch-malformed, batch-long, batch-idle, batch-full, batch-done}
-use Rattle.ends.specs.Ends.{Entering}
+use Rattle.ends.specs.Ends.{setSize, Entering}
 use Rattle.ends.proofs.SeenLaws.{seen-load, seen-held, seen-laid, seen-last}
 use Rattle.ends.proofs.CommitLaws.{none-left, advances, advance-changed}
 
@@ -109,7 +109,7 @@ entering {list = list} e k m = let l = good-list (keyList list) e in record { ke
 pub left-below : {s : List ℕ} {v : View} → Seen s v → (v .marks ≤ 1024) × (v .bytes ≤ 32768)
 left-below w = let f = seen-held w .kept .ceilings in (omega (arith, f .marks, w .marks), omega (arith, f .bytes, w .bytes))
 
-pub begun : {v : View} {list : Bytes} (d : List ℕ) (m b : ℕ) → Entering v list → length d ≡ 34818 → m ≤ 1024 → b ≤ 32768 → Begun d 0 0 list m b
+pub begun : {v : View} {list : Bytes} (d : List ℕ) (m b : ℕ) → Entering v list → length d ≡ setSize → m ≤ 1024 → b ≤ 32768 → Begun d 0 0 list m b
 begun d m b x l hm hb =
     let n : length (drop 2 d) ≡ 34816 = length-drop 2 d ∙ omega (arith, l) in
     record {
@@ -147,7 +147,6 @@ module _ {s : List ℕ} {v : View} (w : Seen s v) {list : Bytes} (x : Entering v
   unfolding sum
   batch-over {d} {d'} {seq} q =
       let st = w .state in
-      let f = seen-held w .kept .ceilings in
       refuse s st (batch seq list) (seen-load w) full (batch-full base st seq list (x .keys) (x .listed) (x .short) someone (inr (passes (q .is [] (x .keys) (refl, omega arith) refl (x .listed)))))
     where
       passes : (0 + (1024 - v .marks) < length all) ⊎ (0 + (32768 - v .bytes) < setBytes all) → (1024 < marks (w .state) + length all) ⊎ (32768 < keyBytes (w .state) + setBytes all)

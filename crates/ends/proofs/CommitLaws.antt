@@ -1,21 +1,19 @@
 -- How a commit ends.
-use Prim.Native.Nat.{ℕ, suc, _+_, _-_, _*_, _≤_, _<_, _^_, max}
-use mathlib.Core.Path.{_≡_, refl, sym, ap, ap₂, _∙_, subst}
+use Prim.Native.Nat.{ℕ, _+_, _-_, _≤_, _<_, _^_, max}
+use mathlib.Core.Path.{_≡_, refl, sym, ap, _∙_, subst}
 use mathlib.Core.List.{List, [], _∷_, _++_}
 use native.Mathlib.Omega.{arith}
 use lib.ListN.{length, length-append}
 use lib.Seq.{paste}
-use Rattle.machine.specs.State.{Bytes, Txn, Entry, State, base, txnMarks, txnBytes}
+use Rattle.machine.specs.State.{Bytes, Txn, Entry, base, txnMarks, txnBytes}
 use Rattle.machine.specs.Sets.{without}
 use Rattle.machine.specs.Serve.{state, entry, answer}
-use Rattle.machine.specs.Calls.{Answer, on, commit, malformed, full, done}
+use Rattle.machine.specs.Calls.{on, commit, malformed, full, done}
 use Rattle.machine.proofs.ActiveLaws.{without-sum}
 use Rattle.codec.specs.Formats.{number}
 use Rattle.codec.proofs.NumberLaws.{length-number}
-use Rattle.moves.specs.Splices.{Spliced}
 use Rattle.layout.specs.Keys.{setForm}
 use Rattle.layout.specs.Records.{headForm, txnForm}
-use Rattle.layout.specs.States.{roomSize}
 use Rattle.layout.specs.Rooms.{Served}
 use Rattle.layout.proofs.PartLaws.{part-end}
 use Rattle.layout.proofs.SizeLaws.{set-length, txn-length}

@@ -1,10 +1,10 @@
 -- The writes of a transaction that leaves become an entry.
 use Prim.Native.Nat.{ℕ, _+_, _-_, _≤_}
-use mathlib.Core.Path.{_≡_, refl, sym, ap, _∙_, subst}
+use mathlib.Core.Path.{_≡_, sym, ap, _∙_, subst}
 use mathlib.Core.List.{List, [], _++_}
 use native.Mathlib.Nat.{le-refl}
 use native.Mathlib.Omega.{arith}
-use lib.ListN.{length, take, drop, length-drop}
+use lib.ListN.{length, take, drop, length-drop, replicate, length-replicate}
 use lib.Seq.{paste, length-paste, take-all, take-at, length-take-le}
 use Rattle.machine.specs.State.{Txn, base}
 use Rattle.codec.specs.Formats.{number}
@@ -14,9 +14,16 @@ use Rattle.layout.specs.Keys.{setForm}
 use Rattle.layout.specs.Records.{txnForm}
 use Rattle.layout.specs.Places.{Part, Here, Ends}
 use Rattle.layout.proofs.PartLaws.{part-end, part-slice}
-use Rattle.layout.proofs.OpenLaws.{OpenTxn, open-txn}
-use Rattle.places.proofs.EndLaws.{here-of, part-after}
-use Rattle.ends.specs.Ends.{Leaving, EnteredFor, Entered}
+use Rattle.layout.proofs.OpenLaws.{open-txn}
+use Rattle.places.proofs.EndLaws.{here-of}
+use Rattle.ends.specs.Ends.{setSize, Leaving, Entered}
+
+-- a draft as it begins
+abbrev pub zeros : List ℕ
+zeros = replicate setSize 0
+
+pub zeros-long : length zeros ≡ setSize
+zeros-long = length-replicate {A = ℕ} setSize 0
 
 -- where the writes stand
 writes-part : {s : List ℕ} {at end past : ℕ} (t : Txn) → Part (txnForm (base .key)) s at t end → Ends (setForm (base .key)) s (at + 24) past → Part (setForm (base .key)) s (at + 24) (t .writes) past
@@ -32,7 +39,7 @@ pub record Span (s : List ℕ) (used middle at end past : ℕ) : Type 0 where
   pub within : end ≤ used
   pub inside : past ≤ length s
   pub room : used ≤ length s
-  pub short : past - (at + 24) ≤ 34818
+  pub short : past - (at + 24) ≤ setSize
 
 pub writes-span : {s : List ℕ} {used middle at end past : ℕ} → Leaving s used middle at end → Ends (setForm (base .key)) s (at + 24) past → Span s used middle at end past
 writes-span l x =
@@ -49,7 +56,7 @@ writes-span l x =
       short = omega (arith, part-end (setForm (base .key)) p, l .short);
     }
 
-module _ {s : List ℕ} {used middle at end past : ℕ} (w : Span s used middle at end past) (d : List ℕ) (long : length d ≡ 34818) where
+module _ {s : List ℕ} {used middle at end past : ℕ} (w : Span s used middle at end past) (d : List ℕ) (long : length d ≡ setSize) where
   -- the writes as they are copied
   abbrev pub copy : List ℕ
   copy = take (past - (at + 24)) (drop (at + 24) s)

@@ -1,13 +1,13 @@
 -- Pruning a room's bytes for those who are active.
-use Prim.Native.Nat.{ℕ, _+_, _-_, _≤_, _<_, _^_}
-use mathlib.Core.Path.{_≡_, refl, sym, ap, _∙_}
+use Prim.Native.Nat.{ℕ, _+_, _-_, _≤_, _<_}
+use mathlib.Core.Path.{_≡_, refl, ap, _∙_}
 use mathlib.Core.List.{List, [], _∷_}
 use native.Mathlib.Omega.{arith}
 use lib.ListN.{length}
 use lib.Seq.{paste}
 use Rattle.machine.specs.Lists.{All}
 use Rattle.machine.specs.State.{Txn, Entry, base}
-use Rattle.machine.specs.Sets.{leastOf, prune}
+use Rattle.machine.specs.Sets.{prune}
 use Rattle.machine.specs.Serve.{state}
 use Rattle.codec.specs.Formats.{number}
 use Rattle.moves.specs.Splices.{Spliced}
@@ -17,7 +17,7 @@ use Rattle.layout.proofs.LoadLaws.{Changed}
 use Rattle.places.specs.Finds.{lowest, LowestIs}
 use Rattle.places.proofs.LowLaws.{lowest-least}
 use Rattle.edits.specs.declared.Kept.{Kept}
-use Rattle.edits.specs.Edits.{freshHead, keptFrom, PrunedTo, Prunes}
+use Rattle.edits.specs.Edits.{freshHead, keptFrom, Prunes}
 use Rattle.edits.proofs.LaidLaws.{entriesOf, laid-entries, laid-end}
 use Rattle.answers.proofs.ChangeLaws.{relaid, fresh-changed}
 use Rattle.answers.proofs.InsideLaws.{laid-pruned}

@@ -7,19 +7,19 @@ use native.Mathlib.Omega.{arith}
 use lib.ListN.{length, length-append}
 use lib.Seq.{paste}
 use Rattle.machine.specs.Lists.{All}
-use Rattle.machine.specs.State.{Bytes, Txn, Entry, base}
-use Rattle.machine.specs.Sets.{find, without}
+use Rattle.machine.specs.State.{Bytes, Txn, base}
+use Rattle.machine.specs.Sets.{without}
 use Rattle.machine.specs.Calls.{holding}
-use Rattle.machine.proofs.ListLaws.{all-map, all-append}
+use Rattle.machine.proofs.ListLaws.{all-map}
 use Rattle.machine.proofs.ActiveLaws.{without-all}
 use Rattle.codec.specs.Formats.{number}
 use Rattle.moves.specs.Splices.{Spliced}
 use Rattle.layout.specs.Records.{entryForm, txnForm}
-use Rattle.layout.specs.Places.{Part, Row, Rows}
+use Rattle.layout.specs.Places.{Row, Rows}
 use Rattle.layout.specs.Rooms.{load}
 use Rattle.layout.proofs.PartLaws.{part-end}
 use Rattle.layout.proofs.RowLaws.{row-inside, row-end}
-use Rattle.layout.proofs.LoadLaws.{Held, Changed}
+use Rattle.layout.proofs.LoadLaws.{Held}
 use Rattle.room.specs.declared.View.{View}
 use Rattle.room.specs.Views.{Seen}
 use Rattle.places.specs.declared.finds.Place.{Place}

@@ -1,13 +1,12 @@
 -- The records of a room's entries and active ones stand where its bytes are laid out.
-use Prim.Native.Nat.{ℕ, _+_, _-_, _≤_, _<_, _^_}
+use Prim.Native.Nat.{ℕ, _+_, _<_, _^_}
 use mathlib.Core.Path.{_≡_, refl, sym, ap, _∙_}
-use mathlib.Core.Bool.{Bool, true}
+use mathlib.Core.Bool.{true}
 use mathlib.Core.List.{List, [], _∷_, _++_, append-assoc}
 use mathlib.Core.Option.{Option, none, some}
 use native.Mathlib.Omega.{arith}
-use lib.ListN.{length, take, drop, length-append, take-append-drop}
+use lib.ListN.{length, drop, length-append, take-append-drop}
 use lib.Seq.{drop-at, drop-drop}
-use Rattle.machine.specs.Lists.{All}
 use Rattle.machine.specs.State.{Txn, Entry, base}
 use Rattle.codec.specs.Codec.{Codec, RunOk, fine}
 use Rattle.codec.specs.Formats.{number}
@@ -15,10 +14,10 @@ use Rattle.codec.specs.Places.{Stands}
 use Rattle.codec.proofs.NumberLaws.{length-number}
 use Rattle.layout.specs.Keys.{anyOrder}
 use Rattle.layout.specs.Records.{stamp, entryForm, txnForm}
-use Rattle.layout.specs.Places.{Part, Row}
+use Rattle.layout.specs.Places.{Row}
 use Rattle.layout.proofs.PartLaws.{part-ok}
 use Rattle.layout.proofs.RowLaws.{row-of}
-use Rattle.edits.proofs.LaidLaws.{bytesOf, Laid, entriesOf, activeOf, inside, laid-used}
+use Rattle.edits.proofs.LaidLaws.{Laid, entriesOf, activeOf, inside, laid-used}
 
 any-fine : {A : Type 0} (C : Codec A) (p : Option A) (a : A) → fine C anyOrder p a ≡ true
 any-fine C none a = refl

@@ -1,5 +1,5 @@
 -- What the inner steps of a call that ends a transaction take and leave.
-use Prim.Native.Nat.{ℕ, _-_, _≤_, _<_, _^_}
+use Prim.Native.Nat.{ℕ, _+_, _*_, _-_, _≤_, _<_, _^_}
 use mathlib.Core.Path.{_≡_}
 use mathlib.Core.List.{List, [], _++_}
 use mathlib.Core.Bool.{true}
@@ -45,6 +45,10 @@ pub record PrunedFor (s : List ℕ) (last : ℕ) (es : List Entry) (ts : List Tx
 pub record Recycled (s : List ℕ) (last n k middle used : ℕ) (s' : List ℕ) (r : ℕ) : Type 0 where
   pub is : (es : List Entry) (ts : List Txn) → Unpruned s last es ts middle used → length es ≡ n → length ts ≡ k → PrunedFor s last es ts s' r
 
+-- what the record of the largest set takes: its count, and two bytes for each mark beside the key bytes
+abbrev pub setSize : ℕ
+setSize = 2 + 2 * base .marks + base .bytes
+
 -- the record of a transaction stands from at up to end, behind `middle` and within the used bytes; a draft can hold its writes
 pub record Leaving (s : List ℕ) (used middle at end : ℕ) : Type 0 where
   pub one : Txn
@@ -52,7 +56,7 @@ pub record Leaving (s : List ℕ) (used middle at end : ℕ) : Type 0 where
   pub after : middle ≤ at
   pub within : end ≤ used
   pub inside : used ≤ length s
-  pub short : length (setForm (base .key) .write (one .writes)) ≤ 34818
+  pub short : length (setForm (base .key) .write (one .writes)) ≤ setSize
 
 -- "the transaction leaves; its write set becomes the last entry"
 pub record EnteredFor (s : List ℕ) (used middle at end seq : ℕ) (t : Txn) (s' : List ℕ) : Type 0 where

@@ -4,12 +4,6 @@ use native.Mathlib.Omega.{arith}
 use borrow.Author.Needs.{needs}
 use Rattle.ends.proofs.batch_entry.Statement.{statement}
 use Rattle.ends.proofs.batch_entry.Tie as tie
-use Rattle.ends.proofs.batch_entry.Reads as reads
-use Rattle.ends.proofs.batch_entry.Lts as lts
-use Rattle.edits.proofs.write_fresh.Reads as write-fresh-reads
-use Rattle.ends.proofs.enter_keys.Reads as enter-keys-reads
-use Rattle.fields.proofs.check_keys.Reads as check-keys-reads
-use Rattle.oracle.proofs.oracle.larger.Reads as larger-reads
 
 check-keys-requires : tie.Need-check-keys-requires
 check-keys-requires c κs = search needs
@@ -42,10 +36,10 @@ returns-3 : tie.Need-returns-3
 returns-3 c = batch-nobody (c .before .before .before .before .before .before .before .before .before .before .before .before .pre) (sym (c .before .before .before .before .before .before .before .enum-told3 .given .1) ∙ c .before .before .before .before .before .before .before .before .before .check-keys .ensures) (c .before .before .before .before .before .if1 .taken) (c .before .before .before .before .larger .ensures) (c .before .before .write-fresh .ensures) (omega (arith, c .before .before .before .before .before .before .before .before .before .before .before .before .fits .seq))
 
 returns-4 : tie.Need-returns-4
-returns-4 c = batch-many (c .before .before .before .before .before .before .before .before .before .pre) (sym (c .before .before .before .before .enum-told3 .given .1) ∙ c .before .before .before .before .before .before .check-keys .ensures) (c .before .before .if1 .left) (c .if2 .taken)
+returns-4 c = batch-many (c .before .before .before .before .before .before .before .before .before .pre) (sym (c .before .before .before .before .enum-told3 .given .1) ∙ c .before .before .before .before .before .before .check-keys .ensures) (omega (arith, c .before .before .if1 .left)) (omega (arith, c .if2 .taken))
 
 enter-keys-requires : tie.Need-enter-keys-requires
-enter-keys-requires c κs = (c .before .before .before .before .before .before .before .before .before .before .pre, entering (sym (c .before .before .before .before .before .enum-told3 .given .1) ∙ c .before .before .before .before .before .before .before .check-keys .ensures) (c .before .before .before .if1 .left) (c .before .if2 .left))
+enter-keys-requires c κs = (c .before .before .before .before .before .before .before .before .before .before .pre, entering (sym (c .before .before .before .before .before .enum-told3 .given .1) ∙ c .before .before .before .before .before .before .before .check-keys .ensures) (c .before .before .before .if1 .left) (omega (arith, c .before .if2 .left)))
 
 same-length-2 : tie.Need-same-length-2
 same-length-2 c = search needs

@@ -7,14 +7,6 @@ use denote.Ref.{now}
 use borrow.Author.Needs.{needs}
 use Rattle.ends.proofs.commit_active.Statement.{statement}
 use Rattle.ends.proofs.commit_active.Tie as tie
-use Rattle.ends.proofs.commit_active.Reads as reads
-use Rattle.ends.proofs.commit_active.Lts as lts
-use Rattle.codec.proofs.numbers.write_two.Reads as write-two-reads
-use Rattle.edits.proofs.write_fresh.Reads as write-fresh-reads
-use Rattle.ends.proofs.enter_writes.Reads as enter-writes-reads
-use Rattle.oracle.proofs.oracle.advance_committed_seq.Reads as advance-committed-seq-reads
-use Rattle.oracle.proofs.oracle.larger.Reads as larger-reads
-use Rattle.places.proofs.finds.find_txn.Reads as find-txn-reads
 
 -- the transaction that was found
 found : (c : tie.After-at) → Found (now (c .before .before .before .before .before .before .before .args .room)) (c .before .before .before .before .before .before .before .args .v .middle) (c .before .before .before .before .before .before .before .args .v .active) (now (c .before .before .before .before .before .before .before .args .id)) (Place.Here (c .at .given .0 .0) (c .at .given .0 .1 .0))
@@ -45,7 +37,7 @@ same-length-2 : tie.Need-same-length-2
 same-length-2 c = search needs
 
 returns-3 : tie.Need-returns-3
-returns-3 c = commit-many (c .before .before .before .before .before .before .before .before .before .before .pre) (c .before .before .before .before .before .before .before .if1 .left) (found (c .before .before .before)) (c .before .if2 .left) (c .if3 .taken)
+returns-3 c = commit-many (c .before .before .before .before .before .before .before .before .before .before .pre) (c .before .before .before .before .before .before .before .if1 .left) (found (c .before .before .before)) (c .before .if2 .left) (omega (arith, c .if3 .taken))
 
 enter-writes-requires : tie.Need-enter-writes-requires
 enter-writes-requires c κs = commit-leaving (c .before .before .before .before .before .before .before .before .before .before .before .pre) (found (c .before .before .before .before))
@@ -75,7 +67,7 @@ same-length-3 : tie.Need-same-length-3
 same-length-3 c = search needs
 
 returns-4 : tie.Need-returns-4
-returns-4 c = commit-entered (c .before .before .before .before .before .before .before .before .before .before .before .before .before .before .before .before .before .before .before .before .before .before .before .before .before .before .pre) (c .before .before .before .before .before .before .before .before .before .before .before .before .before .before .before .before .before .before .before .before .before .before .before .if1 .left) (found (c .before .before .before .before .before .before .before .before .before .before .before .before .before .before .before .before .before .before .before)) (c .before .before .before .before .before .before .before .before .before .before .before .before .before .before .before .before .before .if2 .left) (c .before .before .before .before .before .before .before .before .before .before .before .before .before .before .before .before .if3 .left) (c .before .before .before .before .before .before .before .before .before .before .before .before .before .before .enter-writes .ensures) (c .before .before .before .before .before .before .before .before .before .before .write-two .ensures) (c .before .before .before .before .before .before .write-two2 .ensures) (c .before .before .advance-committed-seq .ensures) (omega (arith, c .before .before .before .before .before .before .before .before .before .before .before .before .before .before .before .before .before .before .before .before .before .before .before .before .before .before .fits .seq))
+returns-4 c = commit-entered (c .before .before .before .before .before .before .before .before .before .before .before .before .before .before .before .before .before .before .before .before .before .before .before .before .before .before .pre) (c .before .before .before .before .before .before .before .before .before .before .before .before .before .before .before .before .before .before .before .before .before .before .before .if1 .left) (found (c .before .before .before .before .before .before .before .before .before .before .before .before .before .before .before .before .before .before .before)) (c .before .before .before .before .before .before .before .before .before .before .before .before .before .before .before .before .before .if2 .left) (omega (arith, c .before .before .before .before .before .before .before .before .before .before .before .before .before .before .before .before .if3 .left)) (c .before .before .before .before .before .before .before .before .before .before .before .before .before .before .enter-writes .ensures) (c .before .before .before .before .before .before .before .before .before .before .write-two .ensures) (c .before .before .before .before .before .before .write-two2 .ensures) (c .before .before .advance-committed-seq .ensures) (omega (arith, c .before .before .before .before .before .before .before .before .before .before .before .before .before .before .before .before .before .before .before .before .before .before .before .before .before .before .fits .seq))
 
 same-length-4 : tie.Need-same-length-4
 same-length-4 c = search needs

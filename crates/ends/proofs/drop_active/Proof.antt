@@ -7,12 +7,6 @@ use denote.Ref.{now}
 use borrow.Author.Needs.{needs}
 use Rattle.ends.proofs.drop_active.Statement.{statement}
 use Rattle.ends.proofs.drop_active.Tie as tie
-use Rattle.ends.proofs.drop_active.Reads as reads
-use Rattle.ends.proofs.drop_active.Lts as lts
-use Rattle.codec.proofs.numbers.write_two.Reads as write-two-reads
-use Rattle.edits.proofs.remove.Reads as remove-reads
-use Rattle.ends.proofs.recycle_recent_committed_txns.Reads as recycle-recent-committed-txns-reads
-use Rattle.places.proofs.finds.find_txn.Reads as find-txn-reads
 
 -- the transaction that was found
 found : (c : tie.After-at) → Found (now (c .before .before .before .before .before .before .before .args .room)) (c .before .before .before .before .before .before .before .args .v .middle) (c .before .before .before .before .before .before .before .args .v .active) (now (c .before .before .before .before .before .before .before .args .id)) (Place.Here (c .at .given .0 .0) (c .at .given .0 .1 .0))

@@ -1,22 +1,16 @@
+use Rattle.ends.proofs.LeaveLaws.{zeros, zeros-long}
 use Rattle.ends.proofs.BatchLaws.{left-below, begun, set-inside, batch-room, room-for-last, batch-entered, batch-over}
 use Rattle.drafts.specs.Drafts.{DraftedIs}
 use Rattle.drafts.specs.declared.Drafted.{Drafted}
-use lib.ListN.{replicate, length-replicate}
-use Prim.Native.Nat.{ℕ, _-_}
+use Prim.Native.Nat.{_-_}
 use native.Mathlib.Omega.{arith}
 use denote.Ref.{now}
 use borrow.Author.Needs.{needs}
 use Rattle.ends.proofs.enter_keys.Statement.{statement}
 use Rattle.ends.proofs.enter_keys.Tie as tie
-use Rattle.ends.proofs.enter_keys.Reads as reads
-use Rattle.ends.proofs.enter_keys.Lts as lts
-use Rattle.codec.proofs.numbers.write_two.Reads as write-two-reads
-use Rattle.drafts.proofs.draft_keys.Reads as draft-keys-reads
-use Rattle.edits.proofs.put_entry.Reads as put-entry-reads
-use Rattle.oracle.proofs.oracle.advance_committed_seq.Reads as advance-committed-seq-reads
 
 -- the set that was drafted
-drafted : (c : tie.After-end) → DraftedIs (replicate 34818 0) 0 0 (now (c .before .before .before .before .before .before .before .before .before .args .list)) (1024 - c .before .before .before .before .before .before .before .before .before .args .v .marks) (32768 - c .before .before .before .before .before .before .before .before .before .args .v .bytes) (c .before .before .before .draft-keys .last .0) (Drafted.Set (c .end .given .0 .0) (c .end .given .0 .1 .0))
+drafted : (c : tie.After-end) → DraftedIs zeros 0 0 (now (c .before .before .before .before .before .before .before .before .before .args .list)) (1024 - c .before .before .before .before .before .before .before .before .before .args .v .marks) (32768 - c .before .before .before .before .before .before .before .before .before .args .v .bytes) (c .before .before .before .draft-keys .last .0) (Drafted.Set (c .end .given .0 .0) (c .end .given .0 .1 .0))
 drafted c = rw (c .end .given .1) at (c .before .before .before .draft-keys .ensures)
 
 sub-marks : tie.Need-sub-marks
@@ -29,7 +23,7 @@ slice-aggregate-draft-keys : tie.Need-slice-aggregate-draft-keys
 slice-aggregate-draft-keys c = search needs
 
 draft-keys-requires : tie.Need-draft-keys-requires
-draft-keys-requires c κs = begun (replicate 34818 0) _ _ (c .before .before .before .before .before .pre .1) (length-replicate {A = ℕ} 34818 0) (omega arith) (omega arith)
+draft-keys-requires c κs = begun zeros _ _ (c .before .before .before .before .before .pre .1) zeros-long (omega arith) (omega arith)
 
 enum-known-end : tie.Need-enum-known-end
 enum-known-end c = search needs

@@ -1,16 +1,7 @@
-use Prim.Native.Nat.{ℕ}
-use lib.ListN.{replicate, length-replicate}
-use Rattle.ends.proofs.LeaveLaws.{writes-here, writes-span, copy-fits, copied-fits, entry-fits, entered}
-use native.Mathlib.Omega.{arith}
+use Rattle.ends.proofs.LeaveLaws.{zeros, zeros-long, writes-here, writes-span, copy-fits, copied-fits, entry-fits, entered}
 use borrow.Author.Needs.{needs}
 use Rattle.ends.proofs.enter_writes.Statement.{statement}
 use Rattle.ends.proofs.enter_writes.Tie as tie
-use Rattle.ends.proofs.enter_writes.Reads as reads
-use Rattle.ends.proofs.enter_writes.Lts as lts
-use Rattle.edits.proofs.put_entry.Reads as put-entry-reads
-use Rattle.edits.proofs.remove.Reads as remove-reads
-use Rattle.moves.proofs.copy_in.Reads as copy-in-reads
-use Rattle.places.proofs.skips.set_past.Reads as set-past-reads
 
 add-from : tie.Need-add-from
 add-from c = search needs
@@ -37,7 +28,7 @@ part-copy-in-end : tie.Need-part-copy-in-end
 part-copy-in-end c = writes-span (c .before .before .before .before .before .pre) (c .before .before .set-past .ensures) .inside
 
 copy-in-requires : tie.Need-copy-in-requires
-copy-in-requires c κs = copy-fits (writes-span (c .before .before .before .before .before .before .pre) (c .before .before .before .set-past .ensures)) (replicate 34818 0) (length-replicate {A = ℕ} 34818 0)
+copy-in-requires c κs = copy-fits (writes-span (c .before .before .before .before .before .before .pre) (c .before .before .before .set-past .ensures)) zeros zeros-long
 
 remove-requires : tie.Need-remove-requires
 remove-requires c κs = search needs
@@ -52,16 +43,16 @@ part-put-entry-start : tie.Need-part-put-entry-start
 part-put-entry-start c = search needs
 
 part-put-entry-end : tie.Need-part-put-entry-end
-part-put-entry-end c = copied-fits (writes-span (c .before .before .before .before .before .before .before .before .before .before .before .before .before .before .pre) (c .before .before .before .before .before .before .before .before .before .before .before .set-past .ensures)) (replicate 34818 0) (length-replicate {A = ℕ} 34818 0) (c .before .before .before .before .before .before .before .copy-in .ensures)
+part-put-entry-end c = copied-fits (writes-span (c .before .before .before .before .before .before .before .before .before .before .before .before .before .before .pre) (c .before .before .before .before .before .before .before .before .before .before .before .set-past .ensures)) zeros zeros-long (c .before .before .before .before .before .before .before .copy-in .ensures)
 
 put-entry-requires : tie.Need-put-entry-requires
-put-entry-requires c κs = entry-fits (writes-span (c .before .before .before .before .before .before .before .before .before .before .before .before .before .before .before .pre) (c .before .before .before .before .before .before .before .before .before .before .before .before .set-past .ensures)) (replicate 34818 0) (length-replicate {A = ℕ} 34818 0) (c .before .before .before .before .before .before .before .before .copy-in .ensures) (c .before .before .before .before .before .remove .ensures)
+put-entry-requires c κs = entry-fits (writes-span (c .before .before .before .before .before .before .before .before .before .before .before .before .before .before .before .pre) (c .before .before .before .before .before .before .before .before .before .before .before .before .set-past .ensures)) zeros zeros-long (c .before .before .before .before .before .before .before .before .copy-in .ensures) (c .before .before .before .before .before .remove .ensures)
 
 same-length : tie.Need-same-length
 same-length c = search needs
 
 returns : tie.Need-returns
-returns c = entered _ (replicate 34818 0) (c .before .before .before .before .before .before .before .before .before .before .before .before .before .before .before .set-past .ensures) (c .before .before .before .before .before .before .before .before .before .before .before .copy-in .ensures) (c .before .before .before .before .before .before .before .before .remove .ensures) (c .before .before .put-entry .ensures)
+returns c = entered _ zeros (c .before .before .before .before .before .before .before .before .before .before .before .before .before .before .before .set-past .ensures) (c .before .before .before .before .before .before .before .before .before .before .before .copy-in .ensures) (c .before .before .before .before .before .before .before .before .remove .ensures) (c .before .before .put-entry .ensures)
 
 pub enter-writes-spec : {M : Type 1} → statement M
 enter-writes-spec =

@@ -3,13 +3,6 @@ use native.Mathlib.Omega.{arith}
 use borrow.Author.Needs.{needs}
 use Rattle.ends.proofs.recycle_recent_committed_txns.Statement.{statement}
 use Rattle.ends.proofs.recycle_recent_committed_txns.Tie as tie
-use Rattle.ends.proofs.recycle_recent_committed_txns.Reads as reads
-use Rattle.ends.proofs.recycle_recent_committed_txns.Lts as lts
-use Rattle.codec.proofs.numbers.write_two.Reads as write-two-reads
-use Rattle.edits.proofs.prune_entries.Reads as prune-entries-reads
-use Rattle.edits.proofs.remove.Reads as remove-reads
-use Rattle.edits.proofs.write_fresh.Reads as write-fresh-reads
-use Rattle.places.proofs.finds.least_start.Reads as least-start-reads
 
 write-fresh-requires : tie.Need-write-fresh-requires
 write-fresh-requires c κs = search needs
