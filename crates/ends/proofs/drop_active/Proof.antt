@@ -37,7 +37,7 @@ write-two-requires : tie.Need-write-two-requires
 write-two-requires c κs = search needs
 
 sub-recycle-recent-committed-txns : tie.Need-sub-recycle-recent-committed-txns
-sub-recycle-recent-committed-txns c = bounds (c .before .before .before .before .before .before .before .before .before .before) .some
+sub-recycle-recent-committed-txns c = omega (arith, bounds (c .before .before .before .before .before .before .before .before .before .before) .some)
 
 sub-recycle-recent-committed-txns-2 : tie.Need-sub-recycle-recent-committed-txns-2
 sub-recycle-recent-committed-txns-2 c = omega (arith, bounds (c .before .before .before .before .before .before .before .before .before .before) .within)

@@ -17,7 +17,7 @@ sub-marks : tie.Need-sub-marks
 sub-marks c = left-below (c .before .before .before .pre .0) .0
 
 sub-bytes : tie.Need-sub-bytes
-sub-bytes c = left-below (c .before .before .before .before .pre .0) .1
+sub-bytes c = let b = left-below (c .before .before .before .before .pre .0) in omega (arith, b .0, b .1)
 
 slice-aggregate-draft-keys : tie.Need-slice-aggregate-draft-keys
 slice-aggregate-draft-keys c = search needs

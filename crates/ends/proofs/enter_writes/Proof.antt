@@ -1,3 +1,4 @@
+use native.Mathlib.Omega.{arith}
 use Rattle.ends.proofs.LeaveLaws.{zeros, zeros-long, writes-here, writes-span, copy-fits, copied-fits, entry-fits, entered}
 use borrow.Author.Needs.{needs}
 use Rattle.ends.proofs.enter_writes.Statement.{statement}
@@ -10,7 +11,7 @@ set-past-requires : tie.Need-set-past-requires
 set-past-requires c κs = writes-here (c .before .before .pre)
 
 sub-size : tie.Need-sub-size
-sub-size c = writes-span (c .before .before .before .pre) (c .set-past .ensures) .from
+sub-size c = let w = writes-span (c .before .before .before .pre) (c .set-past .ensures) in omega (arith, w .from, w .to)
 
 sub-gone : tie.Need-sub-gone
 sub-gone c = search needs
