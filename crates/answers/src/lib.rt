@@ -19,6 +19,11 @@ impl Answer {
         value: 0,
     };
 
+    pub const AGAIN: Self = Answer {
+        status: 3,
+        value: 0,
+    };
+
     pub const LONG: Self = Answer {
         status: 4,
         value: 0,
@@ -31,6 +36,11 @@ impl Answer {
 
     pub const FULL: Self = Answer {
         status: 6,
+        value: 0,
+    };
+
+    pub const NO_STATE: Self = Answer {
+        status: 7,
         value: 0,
     };
 }

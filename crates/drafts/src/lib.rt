@@ -1,11 +1,9 @@
 // The record of a set in a draft, while the keys of a list are added to it.
 ghost use Rattle.drafts.specs.Drafts.{Begun, DraftedIs};
 use codec::numbers::write_two;
+use layout::COUNT;
 use sets::Inserted;
 use sets::insert_all;
-
-// A set's count takes this many bytes.
-const HEAD: usize = 2;
 
 pub enum Drafted {
     Set { end: usize, count: usize },
@@ -25,11 +23,11 @@ pub fn draft_keys(
     requires { ⌜ Begun (now draft) used count (now list) marks bytes ⌝ }
     ensures { λ r. ⌜ DraftedIs (now (draft .entry)) used count (now (list .entry)) marks bytes (now (draft .exit)) r ⌝ }
 {
-    match insert_all(&mut draft[HEAD..], used, count, list, marks, bytes) {
+    match insert_all(&mut draft[COUNT..], used, count, list, marks, bytes) {
         Inserted::All { used, count } => {
             write_two(draft, 0, count);
             return Drafted::Set {
-                end: HEAD + used,
+                end: COUNT + used,
                 count,
             };
         }

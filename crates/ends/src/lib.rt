@@ -14,6 +14,10 @@ use edits::remove;
 use edits::write_fresh;
 use fields::Form;
 use fields::check_keys;
+use layout::ACTIVE_COUNT;
+use layout::ENTRY_COUNT;
+use layout::ID;
+use layout::WRITES;
 use moves::copy_in;
 use oracle::oracle::advance_committed_seq;
 use oracle::oracle::larger;
@@ -25,14 +29,7 @@ use room::View;
 use room::ceilings::BYTE_LIMIT;
 use room::ceilings::ENTRY_LIMIT;
 use room::ceilings::MARK_LIMIT;
-
-// Where the counts of the entries and of the active ones stand in a room's head.
-const ENTRIES: usize = 16;
-
-const ACTIVE: usize = 18;
-
-// The longest record of a set: its count, and two bytes for each mark beside the key bytes.
-const SET: usize = 34818;
+use room::ceilings::SET_SIZE;
 
 // Prunes the entries that no active transaction can conflict with, and answers how many are kept.
 fn recycle_recent_committed_txns(
@@ -55,7 +52,7 @@ fn recycle_recent_committed_txns(
     let end = kept.end;
     let count = kept.count;
     remove(room, used, end, middle - end);
-    write_two(room, ENTRIES, count);
+    write_two(room, ENTRY_COUNT, count);
     count
 }
 
@@ -64,11 +61,8 @@ pub fn drop_active(room: &mut [u8], v: View, id: &[u8]) -> Answer
     requires { ⌜ Seen (now room) v ⌝ }
     ensures { λ r. ⌜ Served (now (room .entry)) (on (dropTxn (now (id .entry)))) (r .status) (r .value) (now (room .exit)) ⌝ }
 {
-    if id.len() != 16 {
-        return Answer {
-            status: 2,
-            value: 0,
-        };
+    if id.len() != ID {
+        return Answer::MALFORMED;
     }
     let last = v.last;
     let entries = v.entries;
@@ -79,7 +73,7 @@ pub fn drop_active(room: &mut [u8], v: View, id: &[u8]) -> Answer
         Place::Here { at, end } => {
             let gone = end - at;
             remove(room, used, at, gone);
-            write_two(room, ACTIVE, active - 1);
+            write_two(room, ACTIVE_COUNT, active - 1);
             let kept = recycle_recent_committed_txns(
                 room,
                 last,
@@ -108,8 +102,8 @@ fn enter_writes(room: &mut [u8], used: usize, middle: usize, at: usize, end: usi
     requires { ⌜ Leaving (now room) used middle at end ⌝ }
     ensures { λ _. ⌜ Entered (now (room .entry)) used middle at end seq (now (room .exit)) ⌝ }
 {
-    let mut draft = [0u8; SET];
-    let from = at + 24;
+    let mut draft = [0u8; SET_SIZE];
+    let from = at + WRITES;
     let past = set_past(room, from);
     let size = past - from;
     let gone = end - at;
@@ -124,11 +118,8 @@ pub fn commit_active(room: &mut [u8], v: View, id: &[u8], seq: u64) -> Answer
     requires { ⌜ Seen (now room) v ⌝ }
     ensures { λ r. ⌜ Served (now (room .entry)) (on (commit (now (id .entry)) seq)) (r .status) (r .value) (now (room .exit)) ⌝ }
 {
-    if id.len() != 16 {
-        return Answer {
-            status: 2,
-            value: 0,
-        };
+    if id.len() != ID {
+        return Answer::MALFORMED;
     }
     let entries = v.entries;
     let active = v.active;
@@ -141,14 +132,11 @@ pub fn commit_active(room: &mut [u8], v: View, id: &[u8], seq: u64) -> Answer
                 return Answer { status: 0, value };
             }
             if ENTRY_LIMIT <= entries {
-                return Answer {
-                    status: 6,
-                    value: 0,
-                };
+                return Answer::FULL;
             }
             enter_writes(room, v.used, middle, at, end, seq);
-            write_two(room, ENTRIES, entries + 1);
-            write_two(room, ACTIVE, active - 1);
+            write_two(room, ENTRY_COUNT, entries + 1);
+            write_two(room, ACTIVE_COUNT, active - 1);
             let value = advance_committed_seq(room, seq);
             Answer { status: 0, value }
         }
@@ -164,20 +152,17 @@ fn enter_keys(room: &mut [u8], v: View, seq: u64, list: &[u8]) -> Answer
     requires { ⌜ Seen (now room) v × Entering v (now list) ⌝ }
     ensures { λ r. ⌜ Served (now (room .entry)) (on (batch seq (now (list .entry)))) (r .status) (r .value) (now (room .exit)) ⌝ }
 {
-    let mut draft = [0u8; SET];
+    let mut draft = [0u8; SET_SIZE];
     let marks = MARK_LIMIT - v.marks;
     let bytes = BYTE_LIMIT - v.bytes;
     match draft_keys(&mut draft, 0, 0, list, marks, bytes) {
         Drafted::Set { end, count: _ } => {
             put_entry(room, v.used, v.middle, seq, &draft[0..end]);
-            write_two(room, ENTRIES, v.entries + 1);
+            write_two(room, ENTRY_COUNT, v.entries + 1);
             let value = advance_committed_seq(room, seq);
             Answer { status: 0, value }
         }
-        Drafted::Full => Answer {
-            status: 6,
-            value: 0,
-        },
+        Drafted::Full => Answer::FULL,
     }
 }
 
@@ -187,18 +172,8 @@ pub fn batch_entry(room: &mut [u8], v: View, seq: u64, list: &[u8]) -> Answer
     ensures { λ r. ⌜ Served (now (room .entry)) (on (batch seq (now (list .entry)))) (r .status) (r .value) (now (room .exit)) ⌝ }
 {
     match check_keys(list) {
-        Form::Malformed => {
-            return Answer {
-                status: 2,
-                value: 0,
-            };
-        }
-        Form::Long => {
-            return Answer {
-                status: 4,
-                value: 0,
-            };
-        }
+        Form::Malformed => return Answer::MALFORMED,
+        Form::Long => return Answer::LONG,
         Form::Good => {
             if v.active == 0 {
                 let value = larger(v.last, seq);
@@ -206,10 +181,7 @@ pub fn batch_entry(room: &mut [u8], v: View, seq: u64, list: &[u8]) -> Answer
                 return Answer { status: 0, value };
             }
             if ENTRY_LIMIT <= v.entries {
-                return Answer {
-                    status: 6,
-                    value: 0,
-                };
+                return Answer::FULL;
             }
             return enter_keys(room, v, seq, list);
         }

@@ -18,3 +18,9 @@ pub const HEAD: usize = 20;
 
 // An id's length.
 pub const ID: usize = 16;
+
+// The count of a list takes this many bytes.
+pub const COUNT: usize = 2;
+
+// A transaction's writes stand behind its id and its start.
+pub const WRITES: usize = 24;

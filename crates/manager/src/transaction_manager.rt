@@ -16,10 +16,7 @@ pub fn new_transaction(room: &mut [u8], id: &[u8]) -> Answer
 {
     match open(room) {
         Opened::Of(view) => starts::begin(room, view, id),
-        Opened::Bad => Answer {
-            status: 7,
-            value: 0,
-        },
+        Opened::Bad => Answer::NO_STATE,
     }
 }
 
@@ -28,10 +25,7 @@ pub fn drop_txn(room: &mut [u8], id: &[u8]) -> Answer
 {
     match open(room) {
         Opened::Of(view) => ends::drop_active(room, view, id),
-        Opened::Bad => Answer {
-            status: 7,
-            value: 0,
-        },
+        Opened::Bad => Answer::NO_STATE,
     }
 }
 
@@ -40,10 +34,7 @@ pub fn track_write_keys(room: &mut [u8], id: &[u8], keys: &[u8]) -> Answer
 {
     match open(room) {
         Opened::Of(view) => tracks::track_writes(room, view, id, keys),
-        Opened::Bad => Answer {
-            status: 7,
-            value: 0,
-        },
+        Opened::Bad => Answer::NO_STATE,
     }
 }
 
@@ -52,10 +43,7 @@ pub fn track_read_keys(room: &mut [u8], id: &[u8], keys: &[u8]) -> Answer
 {
     match open(room) {
         Opened::Of(view) => tracks::track_reads(room, view, id, keys),
-        Opened::Bad => Answer {
-            status: 7,
-            value: 0,
-        },
+        Opened::Bad => Answer::NO_STATE,
     }
 }
 
@@ -64,10 +52,7 @@ pub fn track_read_range(room: &mut [u8], id: &[u8], range: &[u8]) -> Answer
 {
     match open(room) {
         Opened::Of(view) => tracks::range::track_range(room, view, id, range),
-        Opened::Bad => Answer {
-            status: 7,
-            value: 0,
-        },
+        Opened::Bad => Answer::NO_STATE,
     }
 }
 
@@ -76,10 +61,7 @@ pub fn check_has_conflict(room: &[u8], id: &[u8]) -> Answer
 {
     match open(room) {
         Opened::Of(view) => starts::check(room, view, id),
-        Opened::Bad => Answer {
-            status: 7,
-            value: 0,
-        },
+        Opened::Bad => Answer::NO_STATE,
     }
 }
 
@@ -88,10 +70,7 @@ pub fn track_recent_committed_txn(room: &mut [u8], id: &[u8], seq: u64) -> Answe
 {
     match open(room) {
         Opened::Of(view) => ends::commit_active(room, view, id, seq),
-        Opened::Bad => Answer {
-            status: 7,
-            value: 0,
-        },
+        Opened::Bad => Answer::NO_STATE,
     }
 }
 
@@ -100,10 +79,7 @@ pub fn track_recent_committed_write_batch(room: &mut [u8], keys: &[u8], seq: u64
 {
     match open(room) {
         Opened::Of(view) => ends::batch_entry(room, view, seq, keys),
-        Opened::Bad => Answer {
-            status: 7,
-            value: 0,
-        },
+        Opened::Bad => Answer::NO_STATE,
     }
 }
 
@@ -112,9 +88,6 @@ pub fn min_active_seq(room: &[u8]) -> Answer
 {
     match open(room) {
         Opened::Of(view) => starts::minimum(room, view),
-        Opened::Bad => Answer {
-            status: 7,
-            value: 0,
-        },
+        Opened::Bad => Answer::NO_STATE,
     }
 }

@@ -10,3 +10,6 @@ pub const ENTRY_LIMIT: usize = 128;
 pub const MARK_LIMIT: usize = 1024;
 
 pub const BYTE_LIMIT: usize = 32768;
+
+// What the record of the largest set takes: its count, 1,024 lengths and 32,768 key bytes.
+pub const SET_SIZE: usize = 34818;

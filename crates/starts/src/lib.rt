@@ -24,10 +24,7 @@ pub fn make_fresh(room: &mut [u8], last: u64) -> Answer
     ensures { λ r. ⌜ Served (now (room .entry)) (fresh last) (r .status) (r .value) (now (room .exit)) ⌝ }
 {
     if room.len() < SIZE {
-        return Answer {
-            status: 7,
-            value: 0,
-        };
+        return Answer::NO_STATE;
     }
     write_fresh(room, last);
     Answer {
@@ -42,25 +39,16 @@ pub fn begin(room: &mut [u8], v: View, id: &[u8]) -> Answer
     ensures { λ r. ⌜ Served (now (room .entry)) (on (begin (now (id .entry)))) (r .status) (r .value) (now (room .exit)) ⌝ }
 {
     if id.len() != ID {
-        return Answer {
-            status: 2,
-            value: 0,
-        };
+        return Answer::MALFORMED;
     }
     let middle = v.middle;
     let active = v.active;
     let used = v.used;
     match find_txn(room, middle, active, id) {
-        Place::Here { at: _, end: _ } => Answer {
-            status: 3,
-            value: 0,
-        },
+        Place::Here { at: _, end: _ } => Answer::AGAIN,
         Place::Before(at) => {
             if ACTIVE_LIMIT <= active {
-                return Answer {
-                    status: 6,
-                    value: 0,
-                };
+                return Answer::FULL;
             }
             let start = last_committed_seq(room);
             put_txn(room, used, at, id, start);
@@ -79,19 +67,13 @@ pub fn check(room: &[u8], v: View, id: &[u8]) -> Answer
     ensures { λ r. ⌜ Served (now (room .entry)) (on (check (now (id .entry)))) (r .status) (r .value) (now (room .entry)) ⌝ }
 {
     if id.len() != ID {
-        return Answer {
-            status: 2,
-            value: 0,
-        };
+        return Answer::MALFORMED;
     }
     let middle = v.middle;
     let active = v.active;
     let entries = v.entries;
     match find_txn(room, middle, active, id) {
-        Place::Before(_) => Answer {
-            status: 1,
-            value: 0,
-        },
+        Place::Before(_) => Answer::ABSENT,
         Place::Here { at, end: _ } => {
             if conflicts(room, HEAD, entries, at) {
                 return Answer {
@@ -116,10 +98,7 @@ pub fn minimum(room: &[u8], v: View) -> Answer
     let active = v.active;
     let last = v.last;
     if active == 0 {
-        return Answer {
-            status: 1,
-            value: 0,
-        };
+        return Answer::ABSENT;
     }
     let value = least_start(room, middle, active, last);
     Answer { status: 0, value }

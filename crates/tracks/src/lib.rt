@@ -12,6 +12,9 @@ use drafts::Drafted;
 use drafts::draft_keys;
 use fields::Form;
 use fields::check_keys;
+use layout::COUNT;
+use layout::ID;
+use layout::WRITES;
 use moves::copy_in;
 use moves::splice;
 use places::finds::Place;
@@ -20,20 +23,9 @@ use places::skips::set_past;
 use room::View;
 use room::ceilings::BYTE_LIMIT;
 use room::ceilings::MARK_LIMIT;
+use room::ceilings::SET_SIZE;
 
 pub mod range;
-
-// What the record of the largest set takes: its count, 1,024 lengths and 32,768 key bytes.
-const SET_SIZE: usize = 34818;
-
-// A set's count takes this many bytes.
-const COUNT: usize = 2;
-
-// An id's bytes.
-const ID: usize = 16;
-
-// A transaction's writes stand behind its id and its start.
-const WRITES: usize = 24;
 
 // How many keys are new in a set, if they fit.
 enum Grown {
