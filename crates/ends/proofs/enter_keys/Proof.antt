@@ -38,7 +38,7 @@ part-put-entry-end : tie.Need-part-put-entry-end
 part-put-entry-end c = set-inside (c .before .before .before .before .before .before .before .before .before .before .before .before .pre .0) (c .before .before .before .before .before .before .before .before .before .before .before .before .pre .1) (drafted (c .before .before .before))
 
 put-entry-requires : tie.Need-put-entry-requires
-put-entry-requires c κs = batch-room (c .before .before .before .before .before .before .before .before .before .before .before .before .before .pre .0) (c .before .before .before .before .before .before .before .before .before .before .before .before .before .pre .1) (drafted (c .before .before .before .before))
+put-entry-requires c κs = let r = batch-room (c .before .before .before .before .before .before .before .before .before .before .before .before .before .pre .0) (c .before .before .before .before .before .before .before .before .before .before .before .before .before .pre .1) (drafted (c .before .before .before .before)) in (omega (arith, r .0), r .1)
 
 add-write-two : tie.Need-add-write-two
 add-write-two c = search needs
