@@ -5,3 +5,4 @@ pub mod ChangeLaws
 pub mod InsideLaws
 pub mod SightLaws
 pub mod SeenLaws
+pub mod FormLaws

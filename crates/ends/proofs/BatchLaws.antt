@@ -40,40 +40,10 @@ use Rattle.oracle.specs.Advance.{Advanced}
 use Rattle.answers.proofs.ChangeLaws.{laid-enter, fresh-changed}
 use Rattle.answers.proofs.EnterLaws.{batch-malformed, batch-long, batch-idle, batch-full, batch-done}
 use Rattle.ends.specs.Ends.{setSize, Entering}
-use Rattle.ends.proofs.SeenLaws.{seen-load, seen-held, seen-laid, seen-last}
+use Rattle.answers.proofs.SeenLaws.{seen-load, seen-held}
+use Rattle.ends.proofs.SeenLaws.{seen-laid, seen-last}
+use Rattle.answers.proofs.FormLaws.{Listed, no-list, long-list, good-list}
 use Rattle.ends.proofs.CommitLaws.{none-left, advances, advance-changed}
-
--- ---- the form of the list
-
-pub no-list : (o : Option (List Bytes)) → Form.Malformed ≡ formOf o → o ≡ none
-no-list none e = refl
-no-list (some ks) e = go (shortKeys keyLimit ks) e
-  where
-    go : (b : Bool) → Form.Malformed ≡ cond b Form.Good Form.Long → some ks ≡ none
-    go true q = absurd (let z : _≡_ {A = ℕ} 0 1 = cc in omega arith)
-    go false q = absurd (let z : _≡_ {A = ℕ} 0 1 = cc in omega arith)
-
--- a list of keys, all within the limit or not
-pub record Listed (o : Option (List Bytes)) (b : Bool) : Type 0 where
-  pub keys : List Bytes
-  pub is : o ≡ some keys
-  pub short : shortKeys keyLimit keys ≡ b
-
-pub long-list : (o : Option (List Bytes)) → Form.Long ≡ formOf o → Listed o false
-long-list none e = absurd (let z : _≡_ {A = ℕ} 0 1 = cc in omega arith)
-long-list (some ks) e = go (shortKeys keyLimit ks) refl e
-  where
-    go : (b : Bool) → shortKeys keyLimit ks ≡ b → Form.Long ≡ cond b Form.Good Form.Long → Listed (some ks) false
-    go true p q = absurd (let z : _≡_ {A = ℕ} 0 1 = cc in omega arith)
-    go false p q = record { keys = ks; is = refl; short = p }
-
-pub good-list : (o : Option (List Bytes)) → Form.Good ≡ formOf o → Listed o true
-good-list none e = absurd (let z : _≡_ {A = ℕ} 0 1 = cc in omega arith)
-good-list (some ks) e = go (shortKeys keyLimit ks) refl e
-  where
-    go : (b : Bool) → shortKeys keyLimit ks ≡ b → Form.Good ≡ cond b Form.Good Form.Long → Listed (some ks) true
-    go true p q = record { keys = ks; is = refl; short = p }
-    go false p q = absurd (let z : _≡_ {A = ℕ} 0 1 = cc in omega arith)
 
 -- ---- before the list's keys are looked at
 

@@ -24,13 +24,13 @@ use Rattle.places.specs.declared.finds.Place.{Place}
 use Rattle.places.specs.Finds.{Found}
 use Rattle.places.proofs.FindLaws.{here-finds, before-finds}
 use Rattle.edits.specs.Edits.{freshHead}
-use Rattle.edits.proofs.LaidLaws.{Laid, entriesOf, activeOf, laid-last, laid-entries, laid-active, laid-end}
+use Rattle.edits.proofs.LaidLaws.{Laid, entriesOf, activeOf, laid-last, laid-entries, laid-active, laid-end, laid-number}
 use Rattle.oracle.specs.Advance.{Advanced}
 use Rattle.answers.proofs.ChangeLaws.{relaid, laid-enter, fresh-changed}
 use Rattle.answers.proofs.EnterLaws.{commit-malformed, commit-absent, commit-alone, commit-full, commit-done}
 use Rattle.ends.specs.Ends.{Leaving, Entered}
-use Rattle.ends.proofs.StandLaws.{laid-number}
-use Rattle.ends.proofs.SeenLaws.{seen-load, seen-held, seen-laid, seen-last, here, not-here, left, left-is, left-many, here-bounds, here-out}
+use Rattle.answers.proofs.SeenLaws.{seen-load, seen-held}
+use Rattle.ends.proofs.SeenLaws.{seen-laid, seen-last, here, not-here, left, left-is, left-many, here-bounds, here-out}
 
 -- the number advances once all else stands
 pub advance-changed : {s0 s s' : List ℕ} {used l seq r n k : ℕ} (ts : List Txn) (es : List Entry) → Advanced s seq s' r → l < 256 ^ 8 → seq < 256 ^ 8 → n ≡ length es → k ≡ length ts → Laid s0 s used l n k (entriesOf es) (activeOf ts)

@@ -21,7 +21,8 @@ use Rattle.places.proofs.FindLaws.{here-finds, before-finds}
 use Rattle.edits.proofs.LaidLaws.{Laid, laid-active}
 use Rattle.answers.proofs.EnterLaws.{drop-malformed, drop-absent, drop-done}
 use Rattle.ends.specs.Ends.{Prunable, Recycled}
-use Rattle.ends.proofs.SeenLaws.{seen-load, seen-held, seen-unpruned, here, not-here, left, left-is, left-many, here-out, here-unpruned}
+use Rattle.answers.proofs.SeenLaws.{seen-load, seen-held}
+use Rattle.ends.proofs.SeenLaws.{seen-unpruned, here, not-here, left, left-is, left-many, here-out, here-unpruned}
 
 -- a change of a room that a call has changed already
 changed-on : {s0 s s' : List ℕ} {used l n k : ℕ} {es ts : List ℕ} {st : State} → Laid s0 s used l n k es ts → Changed s s' st → Changed s0 s' st

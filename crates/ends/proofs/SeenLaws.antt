@@ -27,7 +27,8 @@ use Rattle.places.specs.Finds.{HereIn, BeforeIn, Found}
 use Rattle.places.proofs.FindLaws.{here-without}
 use Rattle.edits.proofs.LaidLaws.{Laid, entriesOf, activeOf, laid-active}
 use Rattle.answers.proofs.ChangeLaws.{relaid, laid-out}
-use Rattle.answers.proofs.SightLaws.{sight-load, sight-held, sight-laid, sight-rows}
+use Rattle.answers.proofs.SeenLaws as A
+use Rattle.answers.proofs.SeenLaws.{seen-held, entry-row, active-row}
 use Rattle.ends.proofs.StandLaws.{row-ok, ok-append, laid-entry-row, laid-txn-row}
 use Rattle.ends.specs.Ends.{Unpruned, Prunable}
 
@@ -36,36 +37,21 @@ pub rebased : {s0 s : List ℕ} {used l n k : ℕ} {es ts : List ℕ} → Laid s
 rebased v = record { bytes = v .bytes; short = v .short; beyond = refl; size = refl; room = omega (arith, v .room, v .size) }
 
 module _ {s : List ℕ} {v : View} (w : Seen s v) where
-  pub seen-load : load base s ≡ holding (w .state)
-  seen-load = sight-load s (w .state) (v .used) (w .whole) (w .inside) (w .size)
-
-  pub seen-held : Held s (w .state)
-  seen-held = sight-held s (w .state) (v .used) (w .whole) (w .inside) (w .size)
-
   pub seen-laid : Laid s s (v .used) (v .last) (v .entries) (v .active) (entriesOf (w .state .entries)) (activeOf (w .state .active))
-  seen-laid = relaid refl (sym (w .last)) (sym (w .entries)) (sym (w .active)) refl refl (sight-laid s (w .state) (v .used) (w .whole) (w .inside) (w .size))
-
-  pub seen-entries : Row (entryForm (base .key)) s 20 (w .state .entries) (v .middle)
-  seen-entries = rw (w .middle) (sight-rows s (w .state) (v .used) (w .whole) (w .inside) (w .size) .entries)
-
-  pub seen-active : Row (txnForm (base .key)) s (v .middle) (w .state .active) (v .used)
-  seen-active = rw (w .middle) (sight-rows s (w .state) (v .used) (w .whole) (w .inside) (w .size) .active)
-
-  pub seen-rows : Rows (txnForm (base .key)) s (v .middle) (v .active)
-  seen-rows = record { vals = w .state .active; end = v .used; row = seen-active; count = sym (w .active) }
+  seen-laid = relaid refl (sym (w .last)) (sym (w .entries)) (sym (w .active)) refl refl (A.seen-laid w)
 
   pub seen-last : v .last < 256 ^ 8
-  seen-last = omega (arith, w .last, seen-held .last)
+  seen-last = omega (arith, w .last, seen-held w .last)
 
   pub seen-started : All (λ t. t .start ≤ v .last) (w .state .active)
-  seen-started = all-map _ _ (λ t o. omega (arith, o .started, w .last)) (w .state .active) (seen-held .kept .txns)
+  seen-started = all-map _ _ (λ t o. omega (arith, o .started, w .last)) (w .state .active) (seen-held w .kept .txns)
 
   pub seen-unpruned : Unpruned s (v .last) (w .state .entries) (w .state .active) (v .middle) (v .used)
   seen-unpruned =
       record {
         laid = relaid refl refl (w .entries) (w .active) refl refl seen-laid;
-        entries = seen-entries;
-        active = seen-active;
+        entries = entry-row w;
+        active = active-row w;
         started = seen-started;
         small = seen-last;
       }
@@ -75,18 +61,18 @@ module _ {s : List ℕ} {v : View} (w : Seen s v) where
 
   module _ {id : Bytes} where
     pub not-here : {p : ℕ} → Found s (v .middle) (v .active) id (Place.Before p) → BeforeIn s (v .middle) id (w .state .active) (v .used) p
-    not-here f = f .is (w .state .active) (v .used) seen-active (sym (w .active))
+    not-here f = f .is (w .state .active) (v .used) (active-row w) (sym (w .active))
 
     module _ {p q : ℕ} (f : Found s (v .middle) (v .active) id (Place.Here p q)) where
       pub here : HereIn s (v .middle) id (w .state .active) (v .used) p q
-      here = f .is (w .state .active) (v .used) seen-active (sym (w .active))
+      here = f .is (w .state .active) (v .used) (active-row w) (sym (w .active))
 
       -- those who are left
       abbrev pub left : List Txn
       left = here .front ++ here .back
 
       pub left-is : without id (w .state .active) ≡ left
-      left-is = here-without here (seen-held .kept .distinct)
+      left-is = here-without here (seen-held w .kept .distinct)
 
       pub left-many : v .active ≡ length left + 1
       left-many =
@@ -115,7 +101,7 @@ module _ {s : List ℕ} {v : View} (w : Seen s v) where
       here-unpruned {s1} {s2} x e =
           let c : v .active - 1 ≡ length left = omega (arith, left-many) in
           let d = relaid refl refl (w .entries) c refl refl (laid-active (here-out x) (v .active - 1) e) in
-          let oe = row-ok (entryForm (base .key)) none s 20 (w .state .entries) (v .middle) seen-entries in
+          let oe = row-ok (entryForm (base .key)) none s 20 (w .state .entries) (v .middle) (entry-row w) in
           let ot = ok-append (txnForm (base .key)) none (here .front) (here .back) (row-ok (txnForm (base .key)) none s (v .middle) (here .front) p (here .before)) (λ o. row-ok (txnForm (base .key)) o s q (here .back) (v .used) (here .after)) in
           record {
             laid = rebased d;

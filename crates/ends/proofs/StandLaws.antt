@@ -43,15 +43,6 @@ module _ {s0 s : List ℕ} {used l n k : ℕ} {es ts : List ℕ} (v : Laid s0 s 
       let e : s ≡ h ++ (es ++ (ts ++ drop used s)) = whole ∙ simp append-assoc in
       ap (drop 20) e ∙ drop-at h (es ++ (ts ++ drop used s)) 20 lh
 
-  -- the last number
-  pub laid-number : l < 256 ^ 8 → Stands (number 8) s 8 l 16
-  unfolding number
-  laid-number h =
-      let r : List ℕ = (number 2 .write n ++ number 2 .write k) ++ (es ++ (ts ++ drop used s)) in
-      let a : drop 8 s ≡ number 8 .write l ++ r = ap (drop 8) whole ∙ drop-at (number 8 .write stamp) (number 8 .write l ++ r) 8 (length-number 8 stamp) in
-      let b : drop 16 s ≡ r = sym (drop-drop 8 8 s) ∙ ap (drop 8) a ∙ drop-at (number 8 .write l) r 8 (length-number 8 l) in
-      record { reads = rw (a, b) (number 8 .write-is l r h) }
-
 module _ {s0 s : List ℕ} {used l n k : ℕ} (es : List Entry) (ts : List Txn) (v : Laid s0 s used l n k (entriesOf es) (activeOf ts)) where
   pub laid-entry-row : RunOk (entryForm (base .key)) anyOrder none es → Row (entryForm (base .key)) s 20 es (20 + length (entriesOf es))
   laid-entry-row o = row-of (entryForm (base .key)) anyOrder none s 20 es (activeOf ts ++ drop used s) o (omega (arith, laid-used v, inside v)) (behind v)

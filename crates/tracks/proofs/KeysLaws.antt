@@ -31,6 +31,7 @@ use Rattle.places.specs.declared.finds.Place.{Place}
 use Rattle.places.specs.Finds.{Found}
 use Rattle.sets.proofs.TotalLaws.{insertAll-bytes}
 use Rattle.edits.proofs.LaidLaws.{entriesOf, activeOf}
+use Rattle.answers.proofs.FormLaws.{Listed, no-list, long-list, good-list}
 use Rattle.answers.proofs.TrackLaws.{track-absent, track-full, track-done, writes-malformed, reads-malformed, writes-long, reads-long, writes-track, reads-track}
 use Rattle.answers.proofs.InsideLaws.{laid-within}
 use Rattle.room.specs.declared.View.{View}
@@ -39,39 +40,9 @@ use Rattle.tracks.specs.declared.Grown.{Grown}
 use Rattle.tracks.specs.declared.Which.{Which}
 use Rattle.tracks.specs.declared.Which.the-variants.{Writes, Reads}
 use Rattle.tracks.specs.Tracks.{tracking, setOf, addKeys, beforeSet, SetAt, Growable, SetGrown, NotGrown, GrownIs}
-use Rattle.tracks.proofs.SeenLaws.{loaded, held, within, space-left, not-found, here, found, place, laid, changed}
+use Rattle.answers.proofs.SeenLaws.{seen-load, seen-held}
+use Rattle.tracks.proofs.SeenLaws.{within, space-left, not-found, here, found, place, laid, changed}
 use Rattle.tracks.proofs.SetLaws.{SetIn, set-in, afterSet, set-split, set-split-new, same-id, more-marks, more-bytes, set-counts}
-
--- ---- what the verdict on a list says of it
-
-pub no-list : (o : Option (List Bytes)) → Form.Malformed ≡ formOf o → o ≡ none
-no-list none e = refl
-no-list (some ks) e = go (shortKeys keyLimit ks) e
-  where
-    go : (b : Bool) → Form.Malformed ≡ cond b Form.Good Form.Long → some ks ≡ none
-    go true e = absurd (let z : _≡_ {A = ℕ} 0 1 = cc in omega arith)
-    go false e = absurd (let z : _≡_ {A = ℕ} 0 1 = cc in omega arith)
-
-record Listed (o : Option (List Bytes)) (b : Bool) : Type 0 where
-  keys : List Bytes
-  is : o ≡ some keys
-  short : shortKeys (base .key) keys ≡ b
-
-long-list : (o : Option (List Bytes)) → Form.Long ≡ formOf o → Listed o false
-long-list none e = absurd (let z : _≡_ {A = ℕ} 0 1 = cc in omega arith)
-long-list (some ks) e = record { keys = ks; is = refl; short = go (shortKeys keyLimit ks) e }
-  where
-    go : (b : Bool) → Form.Long ≡ cond b Form.Good Form.Long → b ≡ false
-    go true e = absurd (let z : _≡_ {A = ℕ} 0 1 = cc in omega arith)
-    go false e = refl
-
-good-list : (o : Option (List Bytes)) → Form.Good ≡ formOf o → Listed o true
-good-list none e = absurd (let z : _≡_ {A = ℕ} 0 1 = cc in omega arith)
-good-list (some ks) e = record { keys = ks; is = refl; short = go (shortKeys keyLimit ks) e }
-  where
-    go : (b : Bool) → Form.Good ≡ cond b Form.Good Form.Long → b ≡ true
-    go true e = refl
-    go false e = absurd (let z : _≡_ {A = ℕ} 0 1 = cc in omega arith)
 
 -- ---- what the machine answers
 
@@ -95,19 +66,19 @@ one-of f ts front t back e = rw e (omega (arith, sum-append f front (t ∷ back)
 
 module _ {s : Bytes} {v : View} (n : Seen s v) (w : Which) (id list : Bytes) where
   pub keys-refused : ((length id ≡ 16 → ⊥) ⊎ (Form.Malformed ≡ formOf (keyList list))) → Served s (on (tracking w id list)) 2 0 s
-  keys-refused (inl h) = refuse s (n .state) (tracking w id list) (loaded n) malformed (keys-malformed (n .state) id list w (inl h))
-  keys-refused (inr e) = refuse s (n .state) (tracking w id list) (loaded n) malformed (keys-malformed (n .state) id list w (inr (no-list (keyList list) e)))
+  keys-refused (inl h) = refuse s (n .state) (tracking w id list) (seen-load n) malformed (keys-malformed (n .state) id list w (inl h))
+  keys-refused (inr e) = refuse s (n .state) (tracking w id list) (seen-load n) malformed (keys-malformed (n .state) id list w (inr (no-list (keyList list) e)))
 
   module _ (h : length id ≡ 16) where
     pub keys-too-long : Form.Long ≡ formOf (keyList list) → Served s (on (tracking w id list)) 4 0 s
-    keys-too-long e = refuse s (n .state) (tracking w id list) (loaded n) long (keys-long (n .state) id list w h (long-list (keyList list) e))
+    keys-too-long e = refuse s (n .state) (tracking w id list) (seen-load n) long (keys-long (n .state) id list w h (long-list (keyList list) e))
 
     module _ (g : Form.Good ≡ formOf (keyList list)) where
       listed : Listed (keyList list) true
       listed = good-list (keyList list) g
 
       pub keys-absent : {p : ℕ} → Found s (v .middle) (v .active) id (Place.Before p) → Served s (on (tracking w id list)) 1 0 s
-      keys-absent f = look-absent s (n .state) (tracking w id list) (loaded n) 0 (keys-track (n .state) id list w h listed ∙ track-absent base (n .state) id (addKeys w (listed .keys)) (not-found n f))
+      keys-absent f = look-absent s (n .state) (tracking w id list) (seen-load n) 0 (keys-track (n .state) id list w h listed ∙ track-absent base (n .state) id (addKeys w (listed .keys)) (not-found n f))
 
       module _ {p q at : ℕ} (f : Found s (v .middle) (v .active) id (Place.Here p q)) (a : SetAt s p w at) where
         abbrev one : Txn
@@ -162,8 +133,8 @@ module _ {s : Bytes} {v : View} (n : Seen s v) (w : Which) (id list : Bytes) whe
             ends : NotGrown s ks all (1024 - v .marks) (32768 - v .bytes) s' → Served s (on (tracking w id list)) 6 0 s'
             ends o =
                 let em = more-marks w (listed .keys) one (length all - length ks) (omega (arith, insertAll-longer (listed .keys) ks)) in
-                let e = track-full base (n .state) id (addKeys w (listed .keys)) one (addKeys w (listed .keys) one) (length all - length ks) b (found n f) refl (same-id w (listed .keys) one) em bytes-added (held n .kept) (passed (o .passes)) in
-                rw (o .same) (refuse s (n .state) (tracking w id list) (loaded n) full (keys-track (n .state) id list w h listed ∙ e))
+                let e = track-full base (n .state) id (addKeys w (listed .keys)) one (addKeys w (listed .keys) one) (length all - length ks) b (found n f) refl (same-id w (listed .keys) one) em bytes-added (seen-held n .kept) (passed (o .passes)) in
+                rw (o .same) (refuse s (n .state) (tracking w id list) (seen-load n) full (keys-track (n .state) id list w h listed ∙ e))
 
         pub keys-done : {s' : Bytes} {k : ℕ} → GrownIs s (v .used) at list (1024 - v .marks) (32768 - v .bytes) s' (Grown.New k) → Served s (on (tracking w id list)) 0 k s'
         keys-done {s'} {k} r = ends (r .is ks (listed .keys) (stands .end) (stands .part) (listed .is))
@@ -173,10 +144,10 @@ module _ {s : Bytes} {v : View} (n : Seen s v) (w : Which) (id list : Bytes) whe
                 let t' : Txn = addKeys w (listed .keys) one in
                 let i = same-id w (listed .keys) one in
                 let em = more-marks w (listed .keys) one k (o .new) in
-                let e = track-done base (n .state) id (addKeys w (listed .keys)) one t' k b (found n f) refl i em bytes-added (held n .kept) (omega (arith, o .new, o .few, n .marks, within n)) (omega (arith, o .small, n .bytes, within n, insertAll-bytes (listed .keys) ks)) in
+                let e = track-done base (n .state) id (addKeys w (listed .keys)) one t' k b (found n f) refl i em bytes-added (seen-held n .kept) (omega (arith, o .new, o .few, n .marks, within n)) (omega (arith, o .small, n .bytes, within n, insertAll-bytes (listed .keys) ks)) in
                 let gone : stands .end - at ≡ length (setForm (base .key) .write ks) = omega (arith, part-end (setForm (base .key)) (stands .part)) in
                 let fits : usedAfter (v .used) (stands .end - at) (setForm (base .key) .write all) ≤ roomSize base =
                 omega (arith, gone, set-length (base .key) ks, set-length (base .key) all, o .few, o .small, space-left n, within n, end-within, stands .part .from) in
                 let at-is : at ≡ 20 + (length (entriesOf (n .state .entries)) + length (activeOf (here n f .front))) + length (beforeSet w one) = omega (arith, a .is one q (here n f .part), place n f) in
                 let l = laid-within (here n f .front) (here n f .back) one t' (beforeSet w one) (setForm (base .key) .write ks) (afterSet w one) (laid n f) (set-split w one) (set-split-new w (listed .keys) one) at-is gone (o .spliced) fits in
-                change s s' (n .state) (state (n .state .last) (put t' (n .state .active)) (n .state .entries)) (tracking w id list) (loaded n) (changed n f t' i l) k (keys-track (n .state) id list w h listed ∙ e)
+                change s s' (n .state) (state (n .state .last) (put t' (n .state .active)) (n .state .entries)) (tracking w id list) (seen-load n) (changed n f t' i l) k (keys-track (n .state) id list w h listed ∙ e)

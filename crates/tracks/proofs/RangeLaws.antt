@@ -33,7 +33,8 @@ use Rattle.room.specs.declared.View.{View}
 use Rattle.room.specs.Views.{Seen}
 use Rattle.tracks.specs.declared.range.Judged.{Judged}
 use Rattle.tracks.specs.Ranges.{judged, Appendable, AppendedTo, Appended}
-use Rattle.tracks.proofs.SeenLaws.{loaded, held, within, space-left, not-found, here, found, place, laid, changed}
+use Rattle.answers.proofs.SeenLaws.{seen-load, seen-held}
+use Rattle.tracks.proofs.SeenLaws.{within, space-left, not-found, here, found, place, laid, changed}
 use Rattle.tracks.proofs.BoundsLaws.{bounds-record}
 
 -- ---- what the verdict on bounds says of them
@@ -89,20 +90,20 @@ split-length t =
 
 module _ {s : Bytes} {v : View} (n : Seen s v) (id bs : Bytes) where
   pub range-refused : ((length id ≡ 16 → ⊥) ⊎ (Judged.Malformed ≡ judged (boundsOf bs))) → Served s (on (trackRange id bs)) 2 0 s
-  range-refused (inl h) = refuse s (n .state) (trackRange id bs) (loaded n) malformed (range-malformed base (n .state) id bs (inl h))
-  range-refused (inr e) = refuse s (n .state) (trackRange id bs) (loaded n) malformed (range-malformed base (n .state) id bs (inr (no-range (boundsOf bs) e)))
+  range-refused (inl h) = refuse s (n .state) (trackRange id bs) (seen-load n) malformed (range-malformed base (n .state) id bs (inl h))
+  range-refused (inr e) = refuse s (n .state) (trackRange id bs) (seen-load n) malformed (range-malformed base (n .state) id bs (inr (no-range (boundsOf bs) e)))
 
   module _ (h : length id ≡ 16) where
     pub range-too-long : Judged.Long ≡ judged (boundsOf bs) → Served s (on (trackRange id bs)) 4 0 s
     range-too-long e =
         let x = some-range (boundsOf bs) Judged.Long (λ w. absurd (let z : _≡_ {A = ℕ} 0 1 = cc in omega arith)) e in
-        refuse s (n .state) (trackRange id bs) (loaded n) long (range-long base (n .state) id bs h (x .r) (x .is) (is-long (shortRange keyLimit (x .r)) (notEmpty (x .r)) (rangeBytes (x .r)) (x .so)))
+        refuse s (n .state) (trackRange id bs) (seen-load n) long (range-long base (n .state) id bs h (x .r) (x .is) (is-long (shortRange keyLimit (x .r)) (notEmpty (x .r)) (rangeBytes (x .r)) (x .so)))
 
     pub range-is-empty : Judged.Empty ≡ judged (boundsOf bs) → Served s (on (trackRange id bs)) 5 0 s
     range-is-empty e =
         let x = some-range (boundsOf bs) Judged.Empty (λ w. absurd (let z : _≡_ {A = ℕ} 0 1 = cc in omega arith)) e in
         let y = is-empty (shortRange keyLimit (x .r)) (notEmpty (x .r)) (rangeBytes (x .r)) (x .so) in
-        refuse s (n .state) (trackRange id bs) (loaded n) empty (range-empty base (n .state) id bs h (x .r) (x .is) (y .0) (y .1))
+        refuse s (n .state) (trackRange id bs) (seen-load n) empty (range-empty base (n .state) id bs h (x .r) (x .is) (y .0) (y .1))
 
     module _ {k : ℕ} (g : Judged.Good k ≡ judged (boundsOf bs)) where
       said : Said (boundsOf bs) (Judged.Good k)
@@ -115,7 +116,7 @@ module _ {s : Bytes} {v : View} (n : Seen s v) (id bs : Bytes) where
       tracks = range-track base (n .state) id bs h (said .r) (said .is) (good .0) (good .1)
 
       pub range-absent : {p : ℕ} → Found s (v .middle) (v .active) id (Place.Before p) → Served s (on (trackRange id bs)) 1 0 s
-      range-absent f = look-absent s (n .state) (trackRange id bs) (loaded n) 0 (tracks ∙ track-absent base (n .state) id (addRange (said .r)) (not-found n f))
+      range-absent f = look-absent s (n .state) (trackRange id bs) (seen-load n) 0 (tracks ∙ track-absent base (n .state) id (addRange (said .r)) (not-found n f))
 
       module _ {p q : ℕ} (f : Found s (v .middle) (v .active) id (Place.Here p q)) where
         abbrev one : Txn
@@ -123,8 +124,8 @@ module _ {s : Bytes} {v : View} (n : Seen s v) (id bs : Bytes) where
 
         pub range-full : (1024 ≤ v .marks) ⊎ (32768 - v .bytes < k) → Served s (on (trackRange id bs)) 6 0 s
         range-full w =
-            refuse s (n .state) (trackRange id bs) (loaded n) full
-            (tracks ∙ track-full base (n .state) id (addRange (said .r)) one (addRange (said .r) one) 1 (rangeBytes (said .r)) (found n f) refl refl (one-mark (said .r) one) (its-bytes (said .r) one) (held n .kept) (passed w))
+            refuse s (n .state) (trackRange id bs) (seen-load n) full
+            (tracks ∙ track-full base (n .state) id (addRange (said .r)) one (addRange (said .r) one) 1 (rangeBytes (said .r)) (found n f) refl refl (one-mark (said .r) one) (its-bytes (said .r) one) (seen-held n .kept) (passed w))
           where
             passed : (1024 ≤ v .marks) ⊎ (32768 - v .bytes < k) → (base .marks < marks (n .state) + 1) ⊎ (base .bytes < keyBytes (n .state) + rangeBytes (said .r))
             passed (inl x) = inl (omega (arith, x, n .marks))
@@ -152,9 +153,9 @@ module _ {s : Bytes} {v : View} (n : Seen s v) (id bs : Bytes) where
               ends : AppendedTo s (v .used) q bs s' one → Served s (on (trackRange id bs)) 0 1 s'
               ends o =
                   let t' : Txn = addRange (said .r) one in
-                  let e = track-done base (n .state) id (addRange (said .r)) one t' 1 (rangeBytes (said .r)) (found n f) refl refl (one-mark (said .r) one) (its-bytes (said .r) one) (held n .kept) (omega (arith, n .marks, hm)) (omega (arith, n .bytes, within n, good .2, hb)) in
+                  let e = track-done base (n .state) id (addRange (said .r)) one t' 1 (rangeBytes (said .r)) (found n f) refl refl (one-mark (said .r) one) (its-bytes (said .r) one) (seen-held n .kept) (omega (arith, n .marks, hm)) (omega (arith, n .bytes, within n, good .2, hb)) in
                   let pe = part-end (txnForm (base .key)) (here n f .part) in
                   let ee : q ≡ 20 + (length (entriesOf (n .state .entries)) + length (activeOf (here n f .front))) + length (txnForm (base .key) .write one) = omega (arith, pe, place n f) in
                   let ea : o .at ≡ 20 + (length (entriesOf (n .state .entries)) + length (activeOf (here n f .front))) + length (beforeRanges one) = omega (arith, ee, split-length one, part-end (rangesForm (base .key)) (o .ranges)) in
                   let l = laid-range (here n f .front) (here n f .back) one (said .r) (laid n f) written ee ea (o .spliced) (o .counted) fits in
-                  change s s' (n .state) (state (n .state .last) (put t' (n .state .active)) (n .state .entries)) (trackRange id bs) (loaded n) (changed n f t' refl l) 1 (tracks ∙ e)
+                  change s s' (n .state) (state (n .state .last) (put t' (n .state .active)) (n .state .entries)) (trackRange id bs) (seen-load n) (changed n f t' refl l) 1 (tracks ∙ e)

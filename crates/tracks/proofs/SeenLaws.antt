@@ -23,41 +23,30 @@ use Rattle.places.specs.declared.finds.Place.{Place}
 use Rattle.places.specs.Finds.{Found, HereIn}
 use Rattle.places.proofs.FindLaws.{here-id, here-finds, here-puts, before-finds}
 use Rattle.edits.proofs.LaidLaws.{Laid, entriesOf, activeOf, laid-end}
-use Rattle.answers.proofs.SightLaws.{sight-load, sight-held, sight-used, sight-laid, sight-rows}
+use Rattle.answers.proofs.SightLaws.{sight-used}
+use Rattle.answers.proofs.SeenLaws.{seen-held, seen-laid, active-row}
 use Rattle.answers.proofs.ChangeLaws.{relaid}
 use Rattle.room.specs.declared.View.{View}
 use Rattle.room.specs.Views.{Seen}
 
 module _ {s : Bytes} {v : View} (n : Seen s v) where
-  pub loaded : load base s ≡ holding (n .state)
-  loaded = sight-load s (n .state) (v .used) (n .whole) (n .inside) (n .size)
-
-  pub held : Held s (n .state)
-  held = sight-held s (n .state) (v .used) (n .whole) (n .inside) (n .size)
-
   pub within : (v .marks ≤ base .marks) × (v .bytes ≤ base .bytes)
-  within = (omega (arith, n .marks, held .kept .ceilings .marks), omega (arith, n .bytes, held .kept .ceilings .bytes))
+  within = (omega (arith, n .marks, seen-held n .kept .ceilings .marks), omega (arith, n .bytes, seen-held n .kept .ceilings .bytes))
 
   -- what the totals leave finds room: a mark takes six bytes at most beside its key bytes
   pub space-left : v .used + 6 * (base .marks - v .marks) + (base .bytes - v .bytes) ≤ roomSize base
   space-left =
       let L : Ceilings = record { active = base .active; entries = base .entries; marks = marks (n .state); bytes = keyBytes (n .state); key = base .key } in
-      let f : Fits L (n .state) = record { active = held .kept .ceilings .active; entries = held .kept .ceilings .entries; marks = le-refl _; bytes = le-refl _ } in
-      let a = all-map _ (λ t. length (t .id) ≡ 16) (λ t o. o .id-length) (n .state .active) (held .kept .txns) in
-      omega (arith, fits-size L (base .key) (n .state) f a, sight-used s (n .state) (v .used) (n .whole) (n .inside) (n .size), n .marks, n .bytes, held .kept .ceilings .marks, held .kept .ceilings .bytes)
-
-  active-row : Row (txnForm (base .key)) s (v .middle) (n .state .active) (v .used)
-  active-row = rw (n .middle) (sight-rows s (n .state) (v .used) (n .whole) (n .inside) (n .size) .active)
-
-  pub active-here : Rows (txnForm (base .key)) s (v .middle) (v .active)
-  active-here = record { vals = n .state .active; end = v .used; row = active-row; count = sym (n .active) }
+      let f : Fits L (n .state) = record { active = seen-held n .kept .ceilings .active; entries = seen-held n .kept .ceilings .entries; marks = le-refl _; bytes = le-refl _ } in
+      let a = all-map _ (λ t. length (t .id) ≡ 16) (λ t o. o .id-length) (n .state .active) (seen-held n .kept .txns) in
+      omega (arith, fits-size L (base .key) (n .state) f a, sight-used s (n .state) (v .used) (n .whole) (n .inside) (n .size), n .marks, n .bytes, seen-held n .kept .ceilings .marks, seen-held n .kept .ceilings .bytes)
 
   pub not-found : {id : Bytes} {p : ℕ} → Found s (v .middle) (v .active) id (Place.Before p) → find id (n .state .active) ≡ none
-  not-found f = before-finds (f .is (n .state .active) (v .used) active-row (sym (n .active))) (held .kept .distinct)
+  not-found f = before-finds (f .is (n .state .active) (v .used) (active-row n) (sym (n .active))) (seen-held n .kept .distinct)
 
   module _ {id : Bytes} {p q : ℕ} (f : Found s (v .middle) (v .active) id (Place.Here p q)) where
     pub here : HereIn s (v .middle) id (n .state .active) (v .used) p q
-    here = f .is (n .state .active) (v .used) active-row (sym (n .active))
+    here = f .is (n .state .active) (v .used) (active-row n) (sym (n .active))
 
     pub txn-here : Here (txnForm (base .key)) s p
     txn-here = record { val = here .one; end = q; part = here .part }
@@ -69,7 +58,7 @@ module _ {s : Bytes} {v : View} (n : Seen s v) where
     place = row-end (txnForm (base .key)) s (v .middle) (here .front) p (here .before) ∙ omega (arith, n .middle)
 
     pub laid : Laid s s (v .used) (n .state .last) (length (n .state .entries)) (length (n .state .active)) (entriesOf (n .state .entries)) (activeOf (here .front ++ (here .one ∷ here .back)))
-    laid = relaid refl refl refl refl refl (ap activeOf (here .whole)) (sight-laid s (n .state) (v .used) (n .whole) (n .inside) (n .size))
+    laid = relaid refl refl refl refl refl (ap activeOf (here .whole)) (seen-laid n)
 
     -- another in the place of the one that was found
     pub changed : {s' : Bytes} {used' : ℕ} (t : Txn) → t .id ≡ here .one .id
@@ -78,4 +67,4 @@ module _ {s : Bytes} {v : View} (n : Seen s v) where
     changed t i l =
         let st : State = state (n .state .last) (put t (n .state .active)) (n .state .entries) in
         let e : find (t .id) (n .state .active) ≡ some (here .one) = ap (λ (x : Bytes). find x (n .state .active)) (i ∙ sym (here-id here)) ∙ found in
-        laid-end st (relaid refl refl refl (sym (put-known-length t (n .state .active) (here .one) e (held .kept .distinct))) refl (sym (ap activeOf (here-puts here t i))) l) (held .last)
+        laid-end st (relaid refl refl refl (sym (put-known-length t (n .state .active) (here .one) e (seen-held n .kept .distinct))) refl (sym (ap activeOf (here-puts here t i))) l) (seen-held n .last)

@@ -8,7 +8,8 @@ use Rattle.fields.specs.Fields.{keyList}
 use Rattle.fields.specs.Forms.{formOf}
 use Rattle.places.specs.declared.finds.Place.{Place}
 use Rattle.places.specs.Finds.{Found}
-use Rattle.tracks.proofs.SeenLaws.{within, active-here, txn-here}
+use Rattle.answers.proofs.SeenLaws.{active-rows}
+use Rattle.tracks.proofs.SeenLaws.{within, txn-here}
 use Rattle.tracks.proofs.KeysLaws.{keys-refused, keys-too-long, keys-absent, growable, keys-full, keys-done}
 use borrow.Author.Needs.{needs}
 use Rattle.tracks.proofs.track_keys.Statement.{statement}
@@ -44,7 +45,7 @@ enum-told c = search needs
 
 -- src/lib.rt:98:29
 find-txn-requires : tie.Need-find-txn-requires
-find-txn-requires c κs = active-here (c .before .before .before .before .before .before .before .before .pre)
+find-txn-requires c κs = active-rows (c .before .before .before .before .before .before .before .before .pre)
 
 -- src/lib.rt:99:27
 enum-known-at : tie.Need-enum-known-at

@@ -10,7 +10,8 @@ use Rattle.places.specs.declared.finds.Place.{Place}
 use Rattle.places.specs.Finds.{Found}
 use Rattle.tracks.specs.declared.range.Judged.{Judged}
 use Rattle.tracks.specs.Ranges.{judged}
-use Rattle.tracks.proofs.SeenLaws.{within, active-here}
+use Rattle.answers.proofs.SeenLaws.{active-rows}
+use Rattle.tracks.proofs.SeenLaws.{within}
 use Rattle.tracks.proofs.RangeLaws.{range-refused, range-too-long, range-is-empty, range-absent, range-full, appendable, range-done}
 use borrow.Author.Needs.{needs}
 use Rattle.tracks.proofs.range.track_range.Statement.{statement}
@@ -48,7 +49,7 @@ enum-known-size c = search needs
 
 -- src/range.rt:84:37
 find-txn-requires : tie.Need-find-txn-requires
-find-txn-requires c κs = active-here (c .before .before .before .before .before .before .before .before .before .pre)
+find-txn-requires c κs = active-rows (c .before .before .before .before .before .before .before .before .before .pre)
 
 -- src/range.rt:85:27
 enum-known-at : tie.Need-enum-known-at
