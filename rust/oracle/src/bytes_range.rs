@@ -42,6 +42,10 @@ impl BytesProbe {
         BytesProbe(BytesRange::from_prefix_and_subrange(prefix, (start, end)))
     }
 
+    pub(crate) fn into_range(self) -> BytesRange {
+        self.0
+    }
+
     pub fn start(&self) -> Bound<&[u8]> {
         ByteRangeBounds::start_bound(&self.0)
     }

@@ -1,5 +1,8 @@
 //! The library, called through its boundary, against the unchanged Rust: every answer, field for field.
 
+#[path = "../shared/guarded.rs"]
+mod guarded;
+
 mod expected;
 mod question;
 mod tally;

@@ -1,56 +1,11 @@
 //! The incident's shape: no answer may rest on a byte outside the slices that are passed.
 
+use crate::guarded::{guarded, Against, PAGE};
 use crate::question::{Answers, Question};
 use crate::tally::Tally;
 use differential::random::Random;
-use std::os::raw::{c_int, c_void};
-use std::{ptr, slice};
+use std::slice;
 use stranvek_sys::answers::{RawBound, RawRange, EXCLUDED, INCLUDED, UNBOUNDED};
-
-/// Where a guarded key stands.
-#[derive(Clone, Copy, Debug)]
-enum Against {
-    /// Its first byte is the first that may be read.
-    Start,
-    /// Its last byte is the last that may be read.
-    End,
-}
-
-const PAGE: usize = 4096;
-const PROT_NONE: c_int = 0;
-const PROT_READ_WRITE: c_int = 3;
-const MAP_PRIVATE_ANONYMOUS: c_int = 0x22;
-
-extern "C" {
-    fn mmap(
-        at: *mut c_void,
-        length: usize,
-        protection: c_int,
-        flags: c_int,
-        file: c_int,
-        offset: i64,
-    ) -> *mut c_void;
-    fn mprotect(at: *mut c_void, length: usize, protection: c_int) -> c_int;
-}
-
-/// A copy of the key in pages of its own between two that may not be touched; they are never given back.
-fn guarded(key: &[u8], against: Against) -> &'static [u8] {
-    let room = (key.len() / PAGE + 1) * PAGE;
-    // SAFETY: the system finds fresh memory, and of it the part that is opened is made a slice, once.
-    let open = unsafe {
-        let all = mmap(ptr::null_mut(), room + 2 * PAGE, PROT_NONE, MAP_PRIVATE_ANONYMOUS, -1, 0);
-        assert_ne!(all as isize, -1, "no memory to be had");
-        let open = all.cast::<u8>().add(PAGE);
-        assert_eq!(mprotect(open.cast(), room, PROT_READ_WRITE), 0);
-        slice::from_raw_parts_mut(open, room)
-    };
-    let place = match against {
-        Against::Start => &mut open[..key.len()],
-        Against::End => &mut open[room - key.len()..],
-    };
-    place.copy_from_slice(key);
-    place
-}
 
 /// The keys of a question: a start and an end for each range, the key and the prefix.
 type Keys<'a> = [&'a [u8]; 6];
@@ -113,7 +68,7 @@ fn keys_beside_pages_that_may_not_be_touched() {
     let sixes = sixes();
     for keys in &sixes {
         for against in [Against::Start, Against::End] {
-            ask(&mut tally, [0, 1, 2, 3, 4, 5].map(|at| guarded(&keys[at], against)));
+            ask(&mut tally, [0, 1, 2, 3, 4, 5].map(|at| &*guarded(&keys[at], against)));
         }
     }
     tally.close(sixes.len() * 2 * ALL_KINDS * Answers::COUNT);

@@ -1,0 +1,22 @@
+//! The manager's calls on a lent room, through the boundary, against the unchanged Rust.
+
+#[path = "../shared/guarded.rs"]
+mod guarded;
+
+mod both;
+mod call;
+mod draws;
+mod forms;
+mod judge;
+mod met;
+mod reader;
+mod totals;
+mod writer;
+
+mod ceilings;
+mod edges;
+mod hostile;
+mod memory;
+mod random;
+mod short;
+mod stack;

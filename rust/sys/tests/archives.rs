@@ -1,0 +1,40 @@
+//! What the proved archives ask of the program that they are linked into.
+
+use std::path::Path;
+use std::process::Command;
+
+/// Moves of memory, which a compiler may call for by itself.
+const MOVES: [&str; 4] = ["memcpy", "memmove", "memset", "memcmp"];
+
+/// The symbols of an archive as `nm` lists them with an option.
+fn symbols(name: &str, option: &str) -> Vec<String> {
+    let archive = Path::new(env!("STRANVEK_ARCHIVES")).join(format!("lib{}.a", name));
+    let listed = Command::new("nm").arg(option).arg("-P").arg(&archive).output();
+    let listed = listed.expect("nm, which comes with the C compiler");
+    assert!(listed.status.success(), "nm {} {}", option, archive.display());
+    let text = String::from_utf8(listed.stdout).expect("text");
+    let symbol = |line: &str| line.split_once(' ').map(|(symbol, _)| symbol.to_string());
+    text.lines().filter(|line| !line.ends_with(':')).filter_map(symbol).collect()
+}
+
+#[test]
+fn nothing_is_asked_of_the_linker_but_moves_of_memory() {
+    for name in ["host", "desk"] {
+        let asked = symbols(name, "-u");
+        println!("{} asks for {:?}", name, asked);
+        let others: Vec<_> =
+            asked.iter().filter(|asked| !MOVES.contains(&asked.as_str())).collect();
+        assert!(others.is_empty(), "{} asks for {:?}", name, others);
+    }
+}
+
+#[test]
+fn only_the_calls_are_offered() {
+    for (name, calls) in [("host", 16), ("desk", 11)] {
+        let offered = symbols(name, "-g");
+        let offered: Vec<_> =
+            offered.iter().filter(|symbol| !MOVES.contains(&symbol.as_str())).collect();
+        assert!(offered.iter().all(|symbol| symbol.starts_with("stranvek_")), "{:?}", offered);
+        assert_eq!(offered.len(), calls, "{}", name);
+    }
+}
