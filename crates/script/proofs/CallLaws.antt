@@ -1,0 +1,116 @@
+-- Which call a record is, from what the code sees of its payload.
+use Prim.Native.Nat.{ℕ, suc, _+_, _-_, _≤_, _<_}
+use mathlib.Core.Path.{_≡_, refl, sym, ap, ap₂, _∙_}
+use mathlib.Core.Bool.{Bool, true, false, cond}
+use mathlib.Core.List.{List, [], _∷_, _++_}
+use mathlib.Core.Option.{Option, none, some}
+use native.Mathlib.Omega.{arith}
+use borrow.Author.Tests.{ne-eqb}
+use lib.Dec.{eqb}
+use lib.ListN.{length, take, drop, length-append, length-drop, drop-of-length-le}
+use lib.Seq.{take-all}
+use borrow.Rule.Slice.PartAt.{part-to-end}
+use Rattle.codec.specs.Codec.{Item, item, cut, Codec}
+use Rattle.codec.specs.Formats.{number}
+use Rattle.codec.specs.Places.{Stands}
+use Rattle.codec.proofs.NumberLaws.{length-number}
+use Rattle.machine.specs.State.{State, Ceilings}
+use Rattle.machine.specs.Calls.{Op, begin, trackWrites, trackReads, trackRange, check, commit, batch, dropTxn, minimum, Call, on, holding, short, broken, replied}
+use Rattle.machine.specs.Serve.{serve, answer}
+use Rattle.layout.specs.Rooms.{Served}
+use Rattle.script.specs.Script.{withNumber, whenEmpty, commitOf, batchOf, callOf, refusedCall, asCall, called, IdEnds}
+
+-- a payload that is no call's is status 2, value 0, in every state
+pub refused-two : (L : Ceilings) (s : State) → serve L (holding s) refusedCall ≡ replied 2 0 (holding s)
+unfolding serve answer
+refused-two L s = refl
+
+-- ---- the id
+
+module _ (p : List ℕ) where
+  pub id-missing : length p < 16 → IdEnds p (length p)
+  id-missing h =
+      record {
+        inside = omega arith;
+        id = take-all 16 p (omega arith) ∙ sym (take-all (length p) p (omega arith));
+        rest = drop-of-length-le p {i = 16} (omega arith) ∙ sym (drop-of-length-le p {i = length p} (omega arith));
+      }
+
+  pub id-there : 16 ≤ length p → IdEnds p 16
+  id-there h = record { inside = h; id = refl; rest = refl }
+
+-- an answer for one call is an answer for the same call
+pub served-as : {s s' : List ℕ} {a b : Call} {n v : ℕ} → a ≡ b → Served s a n v s' → Served s b n v s'
+served-as e w = rw (← e) w
+
+-- a payload cut where its id ends
+pub split-as : (f : List ℕ → List ℕ → Op) {p : List ℕ} {r : ℕ} → IdEnds p r
+    → on (f (take (r - 0) p) (take (length p - r) (drop r p))) ≡ on (f (take 16 p) (drop 16 p))
+split-as f {p} {r} w =
+    let e : r - 0 ≡ r = omega arith in
+    ap₂ (λ (x y : List ℕ). on (f x y)) (ap (λ (n : ℕ). take n p) e ∙ sym (w .id)) (part-to-end p r ∙ sym (w .rest))
+
+-- ---- the sequence
+
+-- a number of eight bytes and what follows it are as long as the bytes that they are read from
+eight : (p : List ℕ) (n : ℕ) (rest : List ℕ) → number 8 .read p ≡ item n rest → length p ≡ 8 + length rest
+eight p n rest e =
+    ap length (number 8 .read-is p n rest e .0)
+    ∙ length-append (number 8 .write n) rest
+    ∙ ap (λ (k : ℕ). k + length rest) (length-number 8 n)
+
+pub commit-is : {p : List ℕ} {n : ℕ} → length p ≡ 24 → Stands (number 8) p 16 n 24 → on (commit (take 16 p) n) ≡ asCall (commitOf p)
+commit-is {p} {n} e w =
+    let d : drop 24 p ≡ [] = drop-of-length-le p {i = 24} (omega arith) in
+    let r : number 8 .read (drop 16 p) ≡ item n [] = w .reads ∙ ap (item n) d in
+    sym (ap (λ (x : Item ℕ). asCall (withNumber x λ m rest. whenEmpty (commit (take 16 p) m) rest)) r)
+
+pub commit-none : (p : List ℕ) → (length p ≡ 24 → ⊥) → refusedCall ≡ asCall (commitOf p)
+commit-none p h = go (number 8 .read (drop 16 p)) refl
+  where
+    go : (x : Item ℕ) → number 8 .read (drop 16 p) ≡ x → refusedCall ≡ asCall (withNumber x λ m rest. whenEmpty (commit (take 16 p) m) rest)
+    go cut e = refl
+    go (item n []) e = let l : length (drop 16 p) ≡ 8 + 0 = eight (drop 16 p) n [] e in absurd (h (omega (arith, l, length-drop 16 p)))
+    go (item n (b ∷ bs)) e = refl
+
+pub batch-is : {p : List ℕ} {n : ℕ} → Stands (number 8) p 0 n 8 → on (batch n (take (length p - 8) (drop 8 p))) ≡ asCall (batchOf p)
+batch-is {p} {n} w =
+    ap (λ (l : List ℕ). on (batch n l)) (part-to-end p 8)
+    ∙ sym (ap (λ (x : Item ℕ). asCall (withNumber x λ m list. some (batch m list))) (w .reads))
+
+pub batch-none : (p : List ℕ) → length p < 8 → refusedCall ≡ asCall (batchOf p)
+batch-none p h = go (number 8 .read p) refl
+  where
+    go : (x : Item ℕ) → number 8 .read p ≡ x → refusedCall ≡ asCall (withNumber x λ m list. some (batch m list))
+    go cut e = refl
+    go (item n rest) e = absurd (omega (arith, eight p n rest e))
+
+-- ---- nothing
+
+pub minimum-is : (p : List ℕ) → length p ≤ 0 → on minimum ≡ asCall (whenEmpty minimum p)
+minimum-is [] h = refl
+minimum-is (b ∷ bs) h = absurd (omega arith)
+
+pub minimum-none : (p : List ℕ) → 0 < length p → refusedCall ≡ asCall (whenEmpty minimum p)
+minimum-none [] h = absurd (omega arith)
+minimum-none (b ∷ bs) h = refl
+
+-- ---- the tag
+
+-- a tag is known to be a number, or to be none of the nine
+pub tag-as : (p : List ℕ) {t k : ℕ} → t ≡ k → called k p ≡ called t p
+tag-as p {t} {k} e = ap (λ (x : ℕ). called x p) (sym e)
+
+pub tag-none : (t : ℕ) (p : List ℕ) → (((((((((Unit {0} × (t ≡ 1 → ⊥)) × (t ≡ 2 → ⊥)) × (t ≡ 3 → ⊥)) × (t ≡ 4 → ⊥)) × (t ≡ 5 → ⊥)) × (t ≡ 6 → ⊥)) × (t ≡ 7 → ⊥)) × (t ≡ 8 → ⊥)) × (t ≡ 9 → ⊥)) → refusedCall ≡ called t p
+tag-none t p h =
+    rw (
+      ne-eqb t 1 (h .0 .0 .0 .0 .0 .0 .0 .0 .1),
+      ne-eqb t 2 (h .0 .0 .0 .0 .0 .0 .0 .1),
+      ne-eqb t 3 (h .0 .0 .0 .0 .0 .0 .1),
+      ne-eqb t 4 (h .0 .0 .0 .0 .0 .1),
+      ne-eqb t 5 (h .0 .0 .0 .0 .1),
+      ne-eqb t 6 (h .0 .0 .0 .1),
+      ne-eqb t 7 (h .0 .0 .1),
+      ne-eqb t 8 (h .0 .1),
+      ne-eqb t 9 (h .1),
+    )

@@ -1,0 +1,85 @@
+-- Script records, and the call that each is.
+use Prim.Native.Nat.{ℕ, _+_, _*_, _≤_}
+use mathlib.Core.Path.{_≡_}
+use mathlib.Core.Bool.{Bool, cond, _&&_}
+use mathlib.Core.List.{List, [], _∷_}
+use mathlib.Core.Option.{Option, none, some}
+use lib.Dec.{leb, eqb}
+use lib.ListN.{length, take, drop}
+use Rattle.codec.specs.Codec.{Item, item, cut}
+use Rattle.codec.specs.Formats.{number}
+use Rattle.machine.specs.Calls.{Op, begin, trackWrites, trackReads, trackRange, check, commit, batch, dropTxn, minimum, Call, on}
+
+-- "01 begin .. 09 minimum"
+abbrev pub known : ℕ → Bool
+known tag = leb 1 tag && leb tag 9
+
+abbrev pub payloadLimit : ℕ
+payloadLimit = 32768
+
+-- what stands at the front of the bytes that have come so far: a whole record and what follows it, the beginning of one, or a
+-- head that ends the run
+pub data Next : Type 0 where
+  whole : ℕ → List ℕ → List ℕ → Next
+  more stop : Next
+
+-- a record whose head is whole, n being the length that it says
+abbrev pub headed : ℕ → ℕ → List ℕ → Next
+headed tag n bs = cond (leb n payloadLimit) (cond (leb n (length bs)) (whole tag (take n bs) (drop n bs)) more) stop
+
+-- "Field: one-byte tag, two-byte big-endian length, payload."; "An unknown tag, a payload above 32,768 .. ends the run"
+abbrev pub next : List ℕ → Next
+next [] = more
+next (tag ∷ []) = cond (known tag) more stop
+next (tag ∷ h ∷ []) = cond (known tag) more stop
+next (tag ∷ h ∷ l ∷ bs) = cond (known tag) (headed tag (h * 256 + l) bs) stop
+
+-- what a number and the bytes that follow it make, if there is one
+abbrev pub withNumber : Item ℕ → (ℕ → List ℕ → Option Op) → Option Op
+withNumber (item n rest) f = f n rest
+withNumber cut f = none
+
+abbrev pub whenEmpty : Op → List ℕ → Option Op
+whenEmpty op [] = some op
+whenEmpty op (b ∷ bs) = none
+
+-- "06 commit (id, sequence of eight big-endian bytes)"
+abbrev pub commitOf : List ℕ → Option Op
+commitOf p = withNumber (number 8 .read (drop 16 p)) λ n rest. whenEmpty (commit (take 16 p) n) rest
+
+-- "07 batch (sequence, list)"
+abbrev pub batchOf : List ℕ → Option Op
+batchOf p = withNumber (number 8 .read p) λ n list. some (batch n list)
+
+-- "01 begin (id), 02 writes and 03 reads (id, list), 04 range (id, bounds), 05 check (id), .. 08 drop (id), 09 minimum
+-- (nothing). Ids and sequences stand raw."; an id that is not 16 bytes is the machine's to refuse, and there is no call where a
+-- sequence cannot be had or bytes are left over
+abbrev pub callOf : ℕ → List ℕ → Option Op
+callOf tag p =
+    cond (eqb tag 0x01) (some (begin p))
+    (cond (eqb tag 0x02) (some (trackWrites (take 16 p) (drop 16 p)))
+    (cond (eqb tag 0x03) (some (trackReads (take 16 p) (drop 16 p)))
+    (cond (eqb tag 0x04) (some (trackRange (take 16 p) (drop 16 p)))
+    (cond (eqb tag 0x05) (some (check p))
+    (cond (eqb tag 0x06) (commitOf p)
+    (cond (eqb tag 0x07) (batchOf p)
+    (cond (eqb tag 0x08) (some (dropTxn p))
+    (cond (eqb tag 0x09) (whenEmpty minimum p)
+    none))))))))
+
+-- "Leftover or missing payload is status 2", after 7: so is every call with an id of no bytes (CallLaws, refused-two)
+abbrev pub refusedCall : Call
+refusedCall = on (check [])
+
+abbrev pub asCall : Option Op → Call
+asCall none = refusedCall
+asCall (some op) = on op
+
+abbrev pub called : ℕ → List ℕ → Call
+called tag p = asCall (callOf tag p)
+
+-- where a payload's id ends, if it has one
+pub record IdEnds (p : List ℕ) (r : ℕ) : Type 0 where
+  pub inside : r ≤ length p
+  pub id : take 16 p ≡ take r p
+  pub rest : drop 16 p ≡ drop r p
