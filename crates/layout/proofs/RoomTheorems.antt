@@ -1,5 +1,5 @@
 -- The demands on rooms of bytes, for every call that keeps the one contract.
-use Prim.Native.Nat.{ℕ, _<_}
+use Prim.Native.Nat.{ℕ, _≤_, _<_}
 use mathlib.Core.Path.{_≡_, refl, sym, ap, _∙_, subst}
 use mathlib.Core.List.{List, [], _∷_, map}
 use mathlib.Core.Option.{some}
@@ -25,7 +25,9 @@ module _ (L : Ceilings) where
         statuses = ap (λ (x : Reply). x .status) e;
         values = ap (λ (x : Reply). x .value) e;
         states = ap (λ (x : Reply). x .room) e;
+        refused = λ h. a .kept h ∙ sym (b .kept (subst (λ (n : ℕ). 2 ≤ n) (ap (λ (x : Reply). x .status) e) h));
         beyond = a .beyond ∙ sym (b .beyond);
+        size = a .size ∙ sym (b .size);
       }
 
   -- a run of calls on a room goes as the machine goes

@@ -1,8 +1,8 @@
 -- Runs of calls on a room: each call leaves what its contract allows.
-use Prim.Native.Nat.{ℕ}
+use Prim.Native.Nat.{ℕ, _≤_}
 use mathlib.Core.Path.{_≡_}
 use mathlib.Core.List.{List, [], _∷_}
-use lib.ListN.{drop}
+use lib.ListN.{length, drop}
 use Rattle.machine.specs.State.{Ceilings}
 use Rattle.machine.specs.Calls.{Call}
 use Rattle.layout.specs.States.{roomSize}
@@ -25,4 +25,6 @@ pub record Alike (L : Ceilings) (status value : ℕ) (room : List ℕ) (status' 
   pub statuses : status ≡ status'
   pub values : value ≡ value'
   pub states : load L room ≡ load L room'
+  pub refused : 2 ≤ status → room ≡ room'
   pub beyond : drop (roomSize L) room ≡ drop (roomSize L) room'
+  pub size : length room ≡ length room'
