@@ -1,0 +1,189 @@
+use Prim.Native.Nat.{ℕ, _+_, _-_, _≤_, _<_}
+use mathlib.Core.Path.{_≡_, refl, ap, _∙_}
+use mathlib.Core.List.{List}
+use native.Mathlib.Omega.{arith}
+use borrow.Author.Needs.{needs}
+use lib.ListN.{length, take}
+use lib.Seq.{length-take-le}
+use Rattle.replay.specs.Fed.{Held, Stopped}
+use Rattle.replay.proofs.play.Statement.{statement}
+use Rattle.replay.proofs.play.Tie as tie
+use Rattle.replay.proofs.play.Reads as reads
+use Rattle.replay.proofs.play.Lts as lts
+use Rattle.moves.proofs.move_down.Reads as move-down-reads
+use Rattle.replay.proofs.feed.Reads as feed-reads
+use Rattle.replay.proofs.read_on.Reads as read-on-reads
+use Rattle.replay.proofs.say_stop.Reads as say-stop-reads
+
+abbrev Inv-loop : tie.InvT-loop
+Inv-loop room₀ buffer₀ held₀ offset₀ room buffer held offset =
+    (length room ≡ length room₀) × ((length buffer ≡ length buffer₀) × ((length buffer ≡ 131072) × (held < 32771)))
+
+abbrev μ-loop : tie.MeasureT-loop
+μ-loop room₀ buffer₀ held₀ offset₀ room buffer held offset = 9223372036854975808 - (offset + held)
+
+held-of : (s : List ℕ) (n : ℕ) {at : ℕ} → Held (take (n - 0) s) at → n ≤ length s → (at ≤ n) × (n < at + 32771)
+held-of s n {at} h k =
+    let z : n - 0 ≡ n = omega arith in
+    let e : length (take (n - 0) s) ≡ n = ap (λ (m : ℕ). length (take m s)) z ∙ length-take-le n s k in
+    (omega (arith, h .inside, e), omega (arith, h .few, e))
+
+stopped-of : (s : List ℕ) (n : ℕ) {at : ℕ} → Stopped (take (n - 0) s) at → n ≤ length s → at ≤ n
+stopped-of s n {at} h k =
+    let z : n - 0 ≡ n = omega arith in
+    let e : length (take (n - 0) s) ≡ n = ap (λ (m : ℕ). length (take m s)) z ∙ length-take-le n s k in
+    omega (arith, h .inside, e)
+
+-- what is left of the piece
+fed : (c : tie.After-at Inv-loop μ-loop) → (c .at .given .0 .0 ≤ c .before .before .before .before .before .before .before .before .before .before .before .read-on .result) × (c .before .before .before .before .before .before .before .before .before .before .before .read-on .result < c .at .given .0 .0 + 32771)
+fed c = held-of (c .before .before .before .before .before .before .before .before .before .before .before .read-on .last .0) (c .before .before .before .before .before .before .before .before .before .before .before .read-on .result) (rw (c .at .given .1) at (c .before .before .before .before .feed .ensures)) (omega (arith, c .before .before .before .before .before .before .before .before .before .before .before .read-on .ensures .1))
+
+fed2 : (c : tie.After-at2 Inv-loop μ-loop) → c .at2 .given .0 .0 ≤ c .before .before .before .before .before .before .before .before .before .before .before .read-on .result
+fed2 c = stopped-of (c .before .before .before .before .before .before .before .before .before .before .before .read-on .last .0) (c .before .before .before .before .before .before .before .before .before .before .before .read-on .result) (rw (c .at2 .given .1) at (c .before .before .before .before .feed .ensures)) (omega (arith, c .before .before .before .before .before .before .before .before .before .before .before .read-on .ensures .1))
+
+-- src/main.rt:74:5
+loop-holds : tie.Need-loop-holds Inv-loop μ-loop
+loop-holds c = (refl, (refl, (c .before .before .pre, omega arith)))
+
+-- src/main.rt:75:13
+read-on-requires : tie.Need-read-on-requires Inv-loop μ-loop
+read-on-requires c κs = omega (arith, c .before .before .loop .inv)
+
+-- src/main.rt:78:17
+say-stop-requires : tie.Need-say-stop-requires Inv-loop μ-loop
+say-stop-requires c κs = tt
+
+-- src/main.rt:80:13
+same-length : tie.Need-same-length Inv-loop μ-loop
+same-length c = omega (arith, c .before .before .before .before .before .before .before .before .loop .inv .0)
+
+-- src/main.rt:80:13
+same-length-2 : tie.Need-same-length-2 Inv-loop μ-loop
+same-length-2 c = omega (arith, c .before .before .before .before .before .before .before .before .loop .inv .1 .0)
+
+-- src/main.rt:80:13
+returns : tie.Need-returns Inv-loop μ-loop
+returns c = tt
+
+-- src/main.rt:80:13
+same-length-3 : tie.Need-same-length-3 Inv-loop μ-loop
+same-length-3 c = omega (arith, c .before .before .before .before .before .before .before .loop .inv .0)
+
+-- src/main.rt:80:13
+same-length-4 : tie.Need-same-length-4 Inv-loop μ-loop
+same-length-4 c = omega (arith, c .before .before .before .before .before .before .before .loop .inv .1 .0)
+
+-- src/main.rt:80:13
+returns-2 : tie.Need-returns-2 Inv-loop μ-loop
+returns-2 c = tt
+
+-- src/main.rt:82:26
+sub-feed : tie.Need-sub-feed Inv-loop μ-loop
+sub-feed c = omega arith
+
+-- src/main.rt:82:26
+part-feed-start : tie.Need-part-feed-start Inv-loop μ-loop
+part-feed-start c = omega arith
+
+-- src/main.rt:82:26
+part-feed-end : tie.Need-part-feed-end Inv-loop μ-loop
+part-feed-end c = omega (arith, c .before .before .before .before .before .read-on .ensures .1)
+
+-- src/main.rt:82:15
+feed-requires : tie.Need-feed-requires Inv-loop μ-loop
+feed-requires c κs = tt
+
+-- src/main.rt:83:23
+enum-known-at : tie.Need-enum-known-at Inv-loop μ-loop
+enum-known-at c = search needs
+
+-- src/main.rt:84:24
+sub-held : tie.Need-sub-held Inv-loop μ-loop
+sub-held c = omega (arith, fed (c .before))
+
+-- src/main.rt:85:17
+move-down-requires : tie.Need-move-down-requires Inv-loop μ-loop
+move-down-requires c κs = (omega arith, omega (arith, fed (c .before .before), c .before .before .before .before .before .before .before .before .before .before .before .before .before .read-on .ensures .1))
+
+-- src/main.rt:86:17
+add-offset : tie.Need-add-offset Inv-loop μ-loop
+add-offset c = omega (arith, fed (c .before .before .before .before .before), c .before .before .before .before .before .before .before .before .before .before .before .before .before .before .before .before .read-on .ensures .1, c .before .before .before .before .before .before .before .before .before .before .before .before .before .before .before .before .before .before .before .loop .inv)
+
+-- src/main.rt:74:5
+loop-less : tie.Need-loop-less Inv-loop μ-loop
+loop-less c = omega (arith, fed (c .before .before .before .before .before), c .before .before .before .before .before .before .before .before .before .before .before .before .before .before .before .before .read-on .ensures, c .before .before .before .before .before .before .before .before .before .before .before .before .before .before .before .before .before .before .before .loop .inv)
+
+-- src/main.rt:74:5
+loop-again : tie.Need-loop-again Inv-loop μ-loop
+loop-again c = (omega (arith, c .before .before .before .before .before .before .before .before .before .before .before .before .before .before .before .before .before .before .before .loop .inv .0), (omega (arith, c .before .before .before .before .before .before .before .before .before .before .before .before .before .before .before .before .before .before .before .loop .inv .1 .0), (omega (arith, c .before .before .before .before .before .before .before .before .before .before .before .before .before .before .before .before .before .before .before .loop .inv .1 .1 .0), omega (arith, fed (c .before .before .before .before .before)))))
+
+-- src/main.rt:88:23
+enum-known-at-2 : tie.Need-enum-known-at-2 Inv-loop μ-loop
+enum-known-at-2 c = search needs
+
+-- src/main.rt:89:26
+add-say-stop : tie.Need-add-say-stop Inv-loop μ-loop
+add-say-stop c = omega (arith, fed2 (c .before), c .before .before .before .before .before .before .before .before .before .before .before .before .read-on .ensures .1, c .before .before .before .before .before .before .before .before .before .before .before .before .before .before .before .loop .inv)
+
+-- src/main.rt:89:17
+say-stop-requires-2 : tie.Need-say-stop-requires-2 Inv-loop μ-loop
+say-stop-requires-2 c κs = tt
+
+-- src/main.rt:90:17
+same-length-5 : tie.Need-same-length-5 Inv-loop μ-loop
+same-length-5 c = omega (arith, c .before .before .before .before .before .before .before .before .before .before .before .before .before .before .before .before .loop .inv .0)
+
+-- src/main.rt:90:17
+same-length-6 : tie.Need-same-length-6 Inv-loop μ-loop
+same-length-6 c = omega (arith, c .before .before .before .before .before .before .before .before .before .before .before .before .before .before .before .before .loop .inv .1 .0)
+
+-- src/main.rt:90:17
+returns-3 : tie.Need-returns-3 Inv-loop μ-loop
+returns-3 c = tt
+
+-- src/main.rt:69:1
+same-length-7 : tie.Need-same-length-7 Inv-loop μ-loop
+same-length-7 c = c .before .loop .inv .0
+
+-- src/main.rt:69:1
+same-length-8 : tie.Need-same-length-8 Inv-loop μ-loop
+same-length-8 c = c .before .loop .inv .1 .0
+
+-- src/main.rt:69:1
+returns-4 : tie.Need-returns-4 Inv-loop μ-loop
+returns-4 c = tt
+
+pub play-spec : {M : Type 1} → statement M
+play-spec =
+    tie.close
+    (tie.spec
+    Inv-loop
+    μ-loop
+    loop-holds
+    read-on-requires
+    say-stop-requires
+    same-length
+    same-length-2
+    returns
+    same-length-3
+    same-length-4
+    returns-2
+    sub-feed
+    part-feed-start
+    part-feed-end
+    feed-requires
+    enum-known-at
+    sub-held
+    move-down-requires
+    add-offset
+    loop-less
+    loop-again
+    enum-known-at-2
+    add-say-stop
+    say-stop-requires-2
+    same-length-5
+    same-length-6
+    returns-3
+    same-length-7
+    same-length-8
+    returns-4)
