@@ -2,12 +2,13 @@
 use Prim.Native.Nat.{ℕ, _≤_, _<_}
 use mathlib.Core.Path.{_≡_, refl, sym, ap, _∙_, subst}
 use mathlib.Core.List.{List, [], _∷_, map}
-use mathlib.Core.Option.{some}
+use mathlib.Core.Bool.{Bool, true, false}
+use mathlib.Core.Option.{Option, none, some}
 use native.Mathlib.Omega.{arith}
 use Rattle.machine.specs.State.{Bytes, Txn, Ceilings}
-use Rattle.machine.specs.Sets.{find}
-use Rattle.machine.specs.Calls.{Op, Call, fresh, on, check, Room, short, broken, holding, Reply, replied}
-use Rattle.machine.specs.Serve.{state, serve}
+use Rattle.machine.specs.Sets.{find, conflict}
+use Rattle.machine.specs.Calls.{Op, Call, fresh, on, check, Room, short, broken, holding, malformed, done, absent, Reply, replied, reply, _>>=_, _>>_, need, given}
+use Rattle.machine.specs.Serve.{state, isId, verdict, answer, serve}
 use Rattle.machine.specs.History.{World, next, run, start, activeOf, Verdict, Lives}
 use Rattle.machine.proofs.Record.{demand-3, never-7}
 use Rattle.machine.specs.Rust.{Unrefused, rustRun, manager}
@@ -29,6 +30,19 @@ module _ (L : Ceilings) where
         beyond = a .beyond ∙ sym (b .beyond);
         size = a .size ∙ sym (b .size);
       }
+
+  -- a check that answers 1 is done
+  one-done : (room : Room) (i : Bytes) → serve L room (on (check i)) .value ≡ 1 → serve L room (on (check i)) .status ≡ 0
+  unfolding serve answer
+  one-done short i e = absurd (omega (arith, e))
+  one-done broken i e = absurd (omega (arith, e))
+  one-done (holding s) i e = go (isId i) (find i (s .active)) e
+    where
+      go : (b : Bool) (o : Option Txn) → reply s (need b malformed >> (given o (absent 0 s) >>= λ t. done (verdict (conflict t (s .entries))) s)) .value ≡ 1
+          → reply s (need b malformed >> (given o (absent 0 s) >>= λ t. done (verdict (conflict t (s .entries))) s)) .status ≡ 0
+      go false o q = absurd (omega (arith, q))
+      go true none q = absurd (omega (arith, q))
+      go true (some t) q = refl
 
   -- a run of calls on a room goes as the machine goes
   passed-run : (w : World) (room : List ℕ) (cs : List Call) (room' : List ℕ) → load L room ≡ w .room → Passed L room cs room' → load L room' ≡ run L w cs .room
@@ -69,12 +83,13 @@ module _ (L : Ceilings) where
     -- "Once said, it stays said until that transaction commits or is dropped, or the room is made fresh again."
     pub room-stays-said : (i : Bytes) (t : Txn) (s : ℕ) (after : List ℕ) → find i (activeOf (load L room)) ≡ some t → ServedBy L room (on (check i)) s 1 after
         → (ds : List Call) (later : List ℕ) → Passed L room ds later → Lives L i (run L (start n) cs) ds
-        → (s' u' : ℕ) (after' : List ℕ) → ServedBy L later (on (check i)) s' u' after' → u' ≡ 1
+        → (s' u' : ℕ) (after' : List ℕ) → ServedBy L later (on (check i)) s' u' after' → (s' ≡ 0) × (u' ≡ 1)
     room-stays-said i t s after e a ds later q lives s' u' after' b =
         let one : serve L (run L (start n) cs .room) (on (check i)) .value ≡ 1 = ap (λ (x : Room). serve L x (on (check i)) .value) (sym holds-run) ∙ ap (λ (x : Reply). x .value) (a .answers) in
         let still = stays-said L n cs ds i t (subst (λ (x : Room). find i (activeOf x) ≡ some t) holds-run e) one lives in
         let h : load L later ≡ run L (run L (start n) cs) ds .room = passed-run (run L (start n) cs) room ds later holds-run q in
-        sym (ap (λ (x : Reply). x .value) (b .answers)) ∙ ap (λ (x : Room). serve L x (on (check i)) .value) h ∙ still
+        let one' : serve L (load L later) (on (check i)) .value ≡ 1 = ap (λ (x : Room). serve L x (on (check i)) .value) h ∙ still in
+        (sym (ap (λ (x : Reply). x .status) (b .answers)) ∙ one-done (load L later) i one', sym (ap (λ (x : Reply). x .value) (b .answers)) ∙ one')
 
   -- demand 2: "While no call has answered 2 to 7", the room holds what the Rust's manager does
   pub room-demand-2 : (old : List ℕ) (n v : ℕ) (made : List ℕ) → ServedBy L old (fresh n) 0 v made → (cs : List Op) (room : List ℕ) → Passed L made (map on cs) room → Unrefused L (holding (state n [] [])) cs
