@@ -10,6 +10,7 @@ use Rattle.machine.specs.Serve.{state, entry, newTxn}
 use Rattle.codec.specs.Codec.{Codec, writeRun}
 use Rattle.codec.specs.Formats.{number, bind, via, run}
 use Rattle.moves.specs.Splices.{Spliced, usedAfter}
+use Rattle.moves.proofs.SpliceLaws.{later}
 use Rattle.layout.specs.Keys.{setForm}
 use Rattle.layout.specs.Records.{headForm, entryForm, txnForm, entriesForm, activeForm}
 use Rattle.layout.specs.States.{plainForm, roomSize}
@@ -31,11 +32,10 @@ fresh-changed s s' n h e l =
     let lw : length w ≡ 20 = head-length (freshHead n) in
     let f : s' ≡ w ++ drop 20 s = e ∙ ap (λ (k : ℕ). paste s 0 w k) (sym lw) ∙ whole w ∙ ap (λ (k : ℕ). w ++ drop k s) lw in
     let d : drop 20 s' ≡ drop 20 s = ap (drop 20) e ∙ drop-paste s 0 w 20 (omega arith) (omega arith) in
-    let m : 20 + (roomSize base - 20) ≡ roomSize base = omega arith in
     record {
       writes = record { rest = drop 20 s; is = f ∙ rw (fresh-bytes n) };
       last = l;
-      beyond = ap (λ (x : ℕ). drop x s') (sym m) ∙ sym (drop-drop (roomSize base - 20) 20 s') ∙ ap (drop (roomSize base - 20)) d ∙ drop-drop (roomSize base - 20) 20 s ∙ ap (λ (x : ℕ). drop x s) m;
+      beyond = later s s' 20 (roomSize base) (omega arith) d;
       size = ap length e ∙ length-paste s 0 w 20 (omega arith) (omega arith);
     }
   where

@@ -12,34 +12,21 @@ use Rattle.codec.specs.Codec.{Codec, writeRun}
 use Rattle.codec.specs.Formats.{number, raw, bind, via, run}
 use Rattle.codec.proofs.NumberLaws.{length-number}
 use Rattle.moves.specs.Splices.{Spliced, usedAfter}
-use Rattle.moves.proofs.SpliceLaws.{drop-take, replaces, untouched}
+use Rattle.moves.proofs.SpliceLaws.{drop-take, later, replaces, untouched}
 use Rattle.layout.specs.Keys.{setForm, rangeForm, rangesForm, listForm}
 use Rattle.layout.specs.Records.{headForm, entryForm, txnForm, stamp}
 use Rattle.layout.specs.States.{roomSize}
 use Rattle.layout.proofs.RowLaws.{write-append}
 use Rattle.edits.specs.declared.Kept.{Kept}
 use Rattle.edits.specs.Edits.{keptFrom, PrunedTo}
-use Rattle.edits.proofs.LaidLaws.{bytesOf, Laid, entriesOf, activeOf, inside, laid-used, over-spliced, laid-in-active}
+use Rattle.edits.proofs.LaidLaws.{bytesOf, heads, heads-length, Laid, entriesOf, activeOf, inside, laid-used, over-spliced, laid-in-active}
 use Rattle.answers.proofs.ChangeLaws.{relaid, active-split}
 
 -- ---- entries that are pruned
 
-heads : ℕ → ℕ → ℕ → List ℕ
-heads l n k = number 8 .write stamp ++ (number 8 .write l ++ (number 2 .write n ++ number 2 .write k))
-
-heads-length : (l n k : ℕ) → length (heads l n k) ≡ 20
-unfolding heads
-heads-length l n k = simp (length-append, length-number)
-
 heads-first : (l n k : ℕ) (es ts : List ℕ) → bytesOf l n k es ts ≡ heads l n k ++ (es ++ ts)
 unfolding heads
 heads-first l n k es ts = simp append-assoc
-
--- from a place on the same bytes, so from every later one
-later : (s r : List ℕ) (a b : ℕ) → a ≤ b → drop a r ≡ drop a s → drop b r ≡ drop b s
-later s r a b h e =
-    let k : a + (b - a) ≡ b = omega arith in
-    ap (λ (x : ℕ). drop x r) (sym k) ∙ sym (drop-drop (b - a) a r) ∙ ap (drop (b - a)) e ∙ drop-drop (b - a) a s ∙ ap (λ (x : ℕ). drop x s) k
 
 -- two places cut some bytes in three
 in-three : (s : List ℕ) (a b : ℕ) → a ≤ b → s ≡ take a s ++ (slice a b s ++ drop b s)

@@ -22,6 +22,11 @@ is-id i e = eq-eqb (length i) 16 e
 pub no-id : (i : Bytes) → (length i ≡ 16 → ⊥) → isId i ≡ false
 no-id i e = ne-eqb (length i) 16 e
 
+-- nobody is active where nobody is counted
+pub none-left : (ts : List Txn) → length ts ≡ 0 → ts ≡ []
+none-left [] e = refl
+none-left (t ∷ ts) e = absurd (omega (arith, e))
+
 -- what is not true is false
 pub not-true : (b : Bool) → (b ≡ true → ⊥) → b ≡ false
 not-true true h = absurd (h refl)

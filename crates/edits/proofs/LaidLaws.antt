@@ -107,10 +107,10 @@ module _ {s0 s : List ℕ} {used l n k : ℕ} {es ts : List ℕ} (v : Laid s0 s 
       let lp : 18 ≡ length p = simp (length-append, length-number) in
       laid-over 2 18 x k p (es ++ ts) l n x e (simp append-assoc) (simp append-assoc) lp (omega (arith, laid-used))
 
-heads : ℕ → ℕ → ℕ → List ℕ
+unfoldable pub heads : ℕ → ℕ → ℕ → List ℕ
 heads l n k = number 8 .write stamp ++ (number 8 .write l ++ (number 2 .write n ++ number 2 .write k))
 
-heads-length : (l n k : ℕ) → length (heads l n k) ≡ 20
+pub heads-length : (l n k : ℕ) → length (heads l n k) ≡ 20
 unfolding heads
 heads-length l n k = simp (length-append, length-number)
 

@@ -15,7 +15,7 @@ use Rattle.machine.proofs.ListLaws.{keep-append}
 use Rattle.codec.specs.Codec.{Codec, writeRun}
 use Rattle.codec.specs.Formats.{number}
 use Rattle.codec.specs.Places.{Stands}
-use Rattle.moves.proofs.SpliceLaws.{drop-take}
+use Rattle.moves.proofs.SpliceLaws.{drop-take, later}
 use Rattle.layout.specs.Records.{entryForm}
 use Rattle.layout.specs.Places.{Part, Row, Rows, Here, Ends}
 use Rattle.layout.proofs.PartLaws.{part-slice, part-end, number-read-is}
@@ -29,10 +29,7 @@ E = entryForm (base .key)
 
 -- what stands behind a place stands there too where the bytes from it on are the same
 same-part : {A : Type 0} (C : Codec A) (s r : List ℕ) (at e : ℕ) (a : A) → drop at r ≡ drop at s → length r ≡ length s → Part C s at a e → Part C r at a e
-same-part C s r at e a d l p =
-    let k : at + (e - at) ≡ e = omega (arith, p .from) in
-    let f : drop e r ≡ drop e s = ap (λ (x : ℕ). drop x r) (sym k) ∙ sym (drop-drop (e - at) at r) ∙ ap (drop (e - at)) d ∙ drop-drop (e - at) at s ∙ ap (λ (x : ℕ). drop x s) k in
-    record { stands = record { reads = rw (d, f) (p .stands .reads) }; from = p .from; inside = omega (arith, p .inside) }
+same-part C s r at e a d l p = record { stands = record { reads = rw (d, later s r at e (p .from) d) (p .stands .reads) }; from = p .from; inside = omega (arith, p .inside) }
 
 pub record Pruning (s : List ℕ) (n least : ℕ) (r : List ℕ) (end from count left : ℕ) : Type 0 where
   pub es : List Entry
@@ -133,7 +130,6 @@ module _ {s : List ℕ} {n least : ℕ} {r : List ℕ} {end from count left : �
 
       pub prune-drop : q < least → Pruning s n least r end next count (left - 1)
       prune-drop k =
-          let e : drop next r ≡ drop next s = go in
           record {
             es = v .es;
             stop = v .stop;
@@ -145,17 +141,12 @@ module _ {s : List ℕ} {n least : ℕ} {r : List ℕ} {end from count left : �
             row = rw next-is (turn .row);
             left-is = omega (arith, turn .fewer);
             front = v .front ∙ rw (keep-none least (v .past) (turn .x) (omega (arith, seq-is)));
-            behind = e;
+            behind = later s r from next (ahead .0) (v .behind);
             size = v .size;
             count-is = v .count-is ∙ rw (keep-none least (v .past) (turn .x) (omega (arith, seq-is)));
             within = omega (arith, v .within, ahead .0);
             few = omega (arith, v .few);
           }
-        where
-          go : drop next r ≡ drop next s
-          go =
-              let b : from + (next - from) ≡ next = omega (arith, ahead .0) in
-              ap (λ (x : ℕ). drop x r) (sym b) ∙ sym (drop-drop (next - from) from r) ∙ ap (drop (next - from)) (v .behind) ∙ drop-drop (next - from) from s ∙ ap (λ (x : ℕ). drop x s) b
 
       pub prune-keep : least ≤ q → (r' : List ℕ) → r' ≡ paste r end (drop from r) (next - from) → Pruning s n least r' (end + (next - from)) next (count + 1) (left - 1)
       prune-keep k r' e =
@@ -177,26 +168,12 @@ module _ {s : List ℕ} {n least : ℕ} {r : List ℕ} {end from count left : �
             row = rw next-is (turn .row);
             left-is = omega (arith, turn .fewer);
             front = t ∙ rw (v .front, x, kept, write-append E (keptFrom least (v .past)) (turn .x ∷ []), write-one (turn .x)) (append-assoc (take 20 s) (writeRun E (keptFrom least (v .past))) (E .write (turn .x)));
-            behind = beyond d (omega (arith, v .within, ahead .0)) u;
+            behind = later r r' (end + d) next (omega (arith, v .within, ahead .0)) u ∙ later s r from next (ahead .0) (v .behind);
             size = ap length e ∙ length-paste r end (drop from r) d a b ∙ v .size;
             count-is = ap (λ (m : ℕ). m + 1) (v .count-is) ∙ sym (ap length kept ∙ length-append (keptFrom least (v .past)) (turn .x ∷ []));
             within = omega (arith, v .within, ahead .0);
             few = omega (arith, v .few);
           }
-        where
-          beyond : (d : ℕ) → end + d ≤ next → drop (end + d) r' ≡ drop (end + d) r → drop next r' ≡ drop next s
-          beyond d l u =
-              let b : from + (next - from) ≡ next = omega (arith, ahead .0) in
-              let m : end + d + (next - (end + d)) ≡ next = omega (arith, l) in
-              ap (λ (x : ℕ). drop x r') (sym m)
-              ∙ sym (drop-drop (next - (end + d)) (end + d) r')
-              ∙ ap (drop (next - (end + d))) u
-              ∙ drop-drop (next - (end + d)) (end + d) r
-              ∙ ap (λ (x : ℕ). drop x r) (m ∙ sym b)
-              ∙ sym (drop-drop (next - from) from r)
-              ∙ ap (drop (next - from)) (v .behind)
-              ∙ drop-drop (next - from) from s
-              ∙ ap (λ (x : ℕ). drop x s) b
 
 pub prune-end : {s : List ℕ} {n least : ℕ} {r : List ℕ} {end from count left : ℕ} → Pruning s n least r end from count left → left ≤ 0 → Prunes s n least r (record { count = count; end = end })
 prune-end {s} {n} {least} {r} {end} {from} {count} {left} v h = record { is = λ es e w l. go es e w l (v .rest) refl }

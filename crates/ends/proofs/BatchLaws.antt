@@ -42,8 +42,9 @@ use Rattle.answers.proofs.EnterLaws.{batch-malformed, batch-long, batch-idle, b
 use Rattle.ends.specs.Ends.{setSize, Entering}
 use Rattle.answers.proofs.SeenLaws.{seen-load, seen-held}
 use Rattle.ends.proofs.SeenLaws.{seen-laid, seen-last}
+use Rattle.answers.proofs.StateLaws.{none-left}
 use Rattle.answers.proofs.FormLaws.{Listed, no-list, long-list, good-list}
-use Rattle.ends.proofs.CommitLaws.{none-left, advances, advance-changed}
+use Rattle.ends.proofs.CommitLaws.{advances, advance-changed}
 
 -- ---- before the list's keys are looked at
 

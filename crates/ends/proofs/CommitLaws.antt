@@ -27,6 +27,7 @@ use Rattle.edits.specs.Edits.{freshHead}
 use Rattle.edits.proofs.LaidLaws.{Laid, entriesOf, activeOf, laid-last, laid-entries, laid-active, laid-end, laid-number}
 use Rattle.oracle.specs.Advance.{Advanced}
 use Rattle.answers.proofs.ChangeLaws.{relaid, laid-enter, fresh-changed}
+use Rattle.answers.proofs.StateLaws.{none-left}
 use Rattle.answers.proofs.EnterLaws.{commit-malformed, commit-absent, commit-alone, commit-full, commit-done}
 use Rattle.ends.specs.Ends.{Leaving, Entered}
 use Rattle.answers.proofs.SeenLaws.{seen-load, seen-held}
@@ -40,10 +41,6 @@ advance-changed {l = l} {seq} {r} ts es x a b en ek v =
     (laid-end (state (max l seq) ts es) (relaid refl e en ek refl refl (laid-last v r (x .bytes))) (omega (arith, a, b)), e)
 
 -- nobody is left
-pub none-left : (ts : List Txn) → length ts ≡ 0 → ts ≡ []
-none-left [] e = refl
-none-left (t ∷ ts) e = absurd (omega (arith, e))
-
 -- the larger number, as the machine has it
 pub advances : {s : List ℕ} {v : View} (w : Seen s v) (seq : ℕ) → max (v .last) seq ≡ max (w .state .last) seq
 advances w seq = ap (λ (l : ℕ). max l seq) (w .last)

@@ -28,7 +28,7 @@ use Rattle.places.proofs.FindLaws.{here-without}
 use Rattle.edits.proofs.LaidLaws.{Laid, entriesOf, activeOf, laid-active}
 use Rattle.answers.proofs.ChangeLaws.{relaid, laid-out}
 use Rattle.answers.proofs.SeenLaws as A
-use Rattle.answers.proofs.SeenLaws.{seen-held, entry-row, active-row}
+use Rattle.answers.proofs.SeenLaws.{seen-held, entry-row, active-row, found-in}
 use Rattle.ends.proofs.StandLaws.{row-ok, ok-append, laid-entry-row, laid-txn-row}
 use Rattle.ends.specs.Ends.{Unpruned, Prunable}
 
@@ -61,11 +61,11 @@ module _ {s : List ℕ} {v : View} (w : Seen s v) where
 
   module _ {id : Bytes} where
     pub not-here : {p : ℕ} → Found s (v .middle) (v .active) id (Place.Before p) → BeforeIn s (v .middle) id (w .state .active) (v .used) p
-    not-here f = f .is (w .state .active) (v .used) (active-row w) (sym (w .active))
+    not-here {p} f = found-in w id (Place.Before p) f
 
     module _ {p q : ℕ} (f : Found s (v .middle) (v .active) id (Place.Here p q)) where
       pub here : HereIn s (v .middle) id (w .state .active) (v .used) p q
-      here = f .is (w .state .active) (v .used) (active-row w) (sym (w .active))
+      here = found-in w id (Place.Here p q) f
 
       -- those who are left
       abbrev pub left : List Txn

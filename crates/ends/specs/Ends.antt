@@ -73,4 +73,4 @@ pub record Entering (v : View) (list : Bytes) : Type 0 where
   pub listed : keyList list ≡ some keys
   pub short : shortKeys (base .key) keys ≡ true
   pub active : 0 < v .active
-  pub entries : v .entries < 128
+  pub entries : v .entries < base .entries

@@ -20,7 +20,6 @@ use layout::ID;
 use layout::WRITES;
 use moves::copy_in;
 use oracle::oracle::advance_committed_seq;
-use oracle::oracle::larger;
 use places::finds::Place;
 use places::finds::find_txn;
 use places::finds::least_start;
@@ -30,6 +29,7 @@ use room::ceilings::BYTE_LIMIT;
 use room::ceilings::ENTRY_LIMIT;
 use room::ceilings::MARK_LIMIT;
 use room::ceilings::SET_SIZE;
+use walk::tally::larger;
 
 // Prunes the entries that no active transaction can conflict with, and answers how many are kept.
 fn recycle_recent_committed_txns(

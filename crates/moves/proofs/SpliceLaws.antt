@@ -15,6 +15,12 @@ drop-take (suc a) zero l = let e : 0 - suc a ≡ 0 = omega arith in rw e
 drop-take (suc a) (suc b) [] = sym (take-nil (suc b - suc a))
 drop-take (suc a) (suc b) (x ∷ l) = let e : suc b - suc a ≡ b - a = omega arith in drop-take a b l ∙ rw e
 
+-- the same bytes from a place on, so from every later one
+pub later : (s r : List ℕ) (a b : ℕ) → a ≤ b → drop a r ≡ drop a s → drop b r ≡ drop b s
+later s r a b h e =
+    let k : a + (b - a) ≡ b = omega arith in
+    ap (λ (x : ℕ). drop x r) (sym k) ∙ sym (drop-drop (b - a) a r) ∙ ap (drop (b - a)) e ∙ drop-drop (b - a) a s ∙ ap (λ (x : ℕ). drop x s) k
+
 module _ (s src : List ℕ) (used at gone : ℕ) (h : at + gone ≤ used) (k : used ≤ length s) (f : usedAfter used gone src ≤ length s) where
   -- the used bytes after the part that goes
   tail : List ℕ
@@ -54,14 +60,7 @@ module _ (s src : List ℕ) (used at gone : ℕ) (h : at + gone ≤ used) (k : u
 module _ {s : List ℕ} {used at gone : ℕ} {src s' : List ℕ} (w : Spliced s used at gone src s') where
   -- no byte past the new end is touched; so none past the larger of both ends
   pub untouched : (m : ℕ) → usedAfter used gone src ≤ m → drop m s' ≡ drop m s
-  untouched m h =
-      let new : ℕ = usedAfter used gone src in
-      let e : new + (m - new) ≡ m = omega arith in
-      ap (λ (x : ℕ). drop x s') (sym e)
-      ∙ sym (drop-drop (m - new) new s')
-      ∙ ap (drop (m - new)) (w .after)
-      ∙ drop-drop (m - new) new s
-      ∙ ap (λ (x : ℕ). drop x s) e
+  untouched m h = later s s' (usedAfter used gone src) m h (w .after)
 
   -- where the used bytes are three parts, the middle one is replaced
   pub replaces : (p old q : List ℕ) → take used s ≡ p ++ (old ++ q) → at ≡ length p → gone ≡ length old → at ≤ used → take (usedAfter used gone src) s' ≡ p ++ (src ++ q)

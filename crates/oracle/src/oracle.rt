@@ -1,5 +1,4 @@
-ghost use mathlib.Core.Path.{_≡_};
-ghost use Prim.Native.Nat.{_≤_, max};
+ghost use Prim.Native.Nat.{_≤_};
 ghost use lib.ListN.{length};
 ghost use Rattle.codec.specs.Formats.{number};
 ghost use Rattle.codec.specs.Places.{Stands};
@@ -7,21 +6,13 @@ ghost use Rattle.oracle.specs.Advance.{Advanced};
 use codec::numbers::read_eight;
 use codec::numbers::write_eight;
 use layout::LAST;
+use walk::tally::larger;
 
 pub fn last_committed_seq(room: &[u8]) -> u64
     requires { ⌜ 16 ≤ length (now room) ⌝ }
     ensures { λ r. ⌜ Stands (number 8) (now (room .entry)) 8 r 16 ⌝ }
 {
     read_eight(room, LAST)
-}
-
-pub fn larger(a: u64, b: u64) -> u64
-    ensures { λ r. ⌜ r ≡ max a b ⌝ }
-{
-    if a < b {
-        return b;
-    }
-    a
 }
 
 // Keeps the larger of the old number and the new one, and answers it.

@@ -22,32 +22,6 @@ use Rattle.sets.specs.declared.Found.{Found}
 use Rattle.sets.specs.Sets.{Key, Between, FoundIs}
 use Rattle.sets.proofs.KeyLaws.{part}
 
--- the three ways of a comparison's answer
-module _ (o : Ordering) {r : ℤ} (e : r ≡ sign o) where
-  pub side-less : ltZ (toZ w8 (ofZ w8 r)) (pos 0) ≡ true → o ≡ lt
-  side-less h = go o (rw e at h)
-    where
-      go : (o : Ordering) → ltZ (toZ w8 (ofZ w8 (sign o))) (pos 0) ≡ true → o ≡ lt
-      go lt z = refl
-      go eq z = cc
-      go gt z = cc
-
-  pub side-same : ofZ w8 r ≡ 0 → o ≡ eq
-  side-same h = go o (rw e at h)
-    where
-      go : (o : Ordering) → ofZ w8 (sign o) ≡ 0 → o ≡ eq
-      go lt z = absurd (omega arith)
-      go eq z = refl
-      go gt z = absurd (omega arith)
-
-  pub side-more : ltZ (toZ w8 (ofZ w8 r)) (pos 0) ≡ false → (ofZ w8 r ≡ 0 → ⊥) → o ≡ gt
-  side-more h n = go o (rw e at h) (rw e at n)
-    where
-      go : (o : Ordering) → ltZ (toZ w8 (ofZ w8 (sign o))) (pos 0) ≡ false → (ofZ w8 (sign o) ≡ 0 → ⊥) → o ≡ gt
-      go lt z m = cc
-      go eq z m = absurd (m refl)
-      go gt z m = refl
-
 -- the keys from a place on are still to be compared; the new key comes after those that stand before it
 pub record Seek (d : Bytes) (n : ℕ) (key : Bytes) (at left : ℕ) : Type 0 where
   pub less : List Bytes

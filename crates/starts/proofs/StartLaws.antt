@@ -33,7 +33,7 @@ use Rattle.places.proofs.LowLaws.{lowest-least}
 use Rattle.search.specs.Cursors.{Verdict}
 use Rattle.room.specs.declared.View.{View}
 use Rattle.room.specs.Views.{Seen}
-use Rattle.answers.proofs.StateLaws.{begun, begin-malformed, begin-again, begin-full, begin-fits, begin-done, check-malformed, check-absent, check-done, minimum-nobody, minimum-done}
+use Rattle.answers.proofs.StateLaws.{none-left, begun, begin-malformed, begin-again, begin-full, begin-fits, begin-done, check-malformed, check-absent, check-done, minimum-nobody, minimum-done}
 use Rattle.answers.proofs.ChangeLaws.{fresh-changed, relaid, active-split, laid-put}
 use Rattle.answers.proofs.SeenLaws.{seen-load, seen-held, seen-laid, seen-short, entry-row, active-row, found-in}
 
@@ -130,12 +130,8 @@ module _ (s : List ℕ) (v : View) (id : Bytes) (w : Seen s v) where
 -- ---- minimum
 
 module _ {s : List ℕ} {v : View} (w : Seen s v) where
-  no-txn : (ts : List Txn) → length ts ≡ 0 → ts ≡ []
-  no-txn [] e = refl
-  no-txn (t ∷ ts) e = absurd (omega (arith, e))
-
   pub nobody : v .active ≡ 0 → Served s (on minimum) 1 0 s
-  nobody e = look-absent s (w .state) minimum (seen-load w) 0 (minimum-nobody base (w .state) (no-txn (w .state .active) (omega (arith, w .active))))
+  nobody e = look-absent s (w .state) minimum (seen-load w) 0 (minimum-nobody base (w .state) (none-left (w .state .active) (omega (arith, w .active))))
 
   pub least-is : {r : ℕ} → (v .active ≡ 0 → ⊥) → LowestIs s (v .middle) (v .active) (v .last) r → Served s (on minimum) 0 r s
   least-is {r} h f = go (w .state .active) refl

@@ -24,7 +24,7 @@ use Rattle.places.specs.Finds.{Found, HereIn}
 use Rattle.places.proofs.FindLaws.{here-id, here-finds, here-puts, before-finds}
 use Rattle.edits.proofs.LaidLaws.{Laid, entriesOf, activeOf, laid-end}
 use Rattle.answers.proofs.SightLaws.{sight-used}
-use Rattle.answers.proofs.SeenLaws.{seen-held, seen-laid, active-row}
+use Rattle.answers.proofs.SeenLaws.{seen-held, seen-laid, found-in}
 use Rattle.answers.proofs.ChangeLaws.{relaid}
 use Rattle.room.specs.declared.View.{View}
 use Rattle.room.specs.Views.{Seen}
@@ -42,11 +42,11 @@ module _ {s : Bytes} {v : View} (n : Seen s v) where
       omega (arith, fits-size L (base .key) (n .state) f a, sight-used s (n .state) (v .used) (n .whole) (n .inside) (n .size), n .marks, n .bytes, seen-held n .kept .ceilings .marks, seen-held n .kept .ceilings .bytes)
 
   pub not-found : {id : Bytes} {p : ℕ} → Found s (v .middle) (v .active) id (Place.Before p) → find id (n .state .active) ≡ none
-  not-found f = before-finds (f .is (n .state .active) (v .used) (active-row n) (sym (n .active))) (seen-held n .kept .distinct)
+  not-found {id} {p} f = before-finds (found-in n id (Place.Before p) f) (seen-held n .kept .distinct)
 
   module _ {id : Bytes} {p q : ℕ} (f : Found s (v .middle) (v .active) id (Place.Here p q)) where
     pub here : HereIn s (v .middle) id (n .state .active) (v .used) p q
-    here = f .is (n .state .active) (v .used) (active-row n) (sym (n .active))
+    here = found-in n id (Place.Here p q) f
 
     pub txn-here : Here (txnForm (base .key)) s p
     txn-here = record { val = here .one; end = q; part = here .part }

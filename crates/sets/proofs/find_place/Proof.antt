@@ -1,6 +1,7 @@
+use Rattle.places.proofs.SeekLaws.{is-less, is-same, is-more}
 use native.Mathlib.Omega.{arith}
 use borrow.Author.Needs.{needs}
-use Rattle.sets.proofs.FindLaws.{Seek, side-less, side-same, side-more, seek-start, seek-end, seek-here, next-inside, seek-before, seek-there, seek-next}
+use Rattle.sets.proofs.FindLaws.{Seek, seek-start, seek-end, seek-here, next-inside, seek-before, seek-there, seek-next}
 use Rattle.sets.proofs.find_place.Statement.{statement}
 use Rattle.sets.proofs.find_place.Tie as tie
 use Rattle.sets.proofs.find_place.Reads as reads
@@ -36,10 +37,10 @@ compare-requires : tie.Need-compare-requires Inv-loop μ-loop
 compare-requires c κs = search needs
 
 returns : tie.Need-returns Inv-loop μ-loop
-returns c = seek-before (c .before .before .before .before .before .loop .inv) (omega arith) (c .before .before .before .key-past .ensures) (side-less _ (c .before .compare .ensures) (c .if1 .taken))
+returns c = seek-before (c .before .before .before .before .before .loop .inv) (omega arith) (c .before .before .before .key-past .ensures) (is-less (c .before .compare .ensures) (c .if1 .taken))
 
 returns-2 : tie.Need-returns-2 Inv-loop μ-loop
-returns-2 c = seek-there (c .before .before .before .before .before .before .loop .inv) (omega arith) (c .before .before .before .before .key-past .ensures) (side-same _ (c .before .before .compare .ensures) (c .if2 .taken))
+returns-2 c = seek-there (c .before .before .before .before .before .before .loop .inv) (omega arith) (c .before .before .before .before .key-past .ensures) (is-same (c .before .before .compare .ensures) (c .if2 .taken))
 
 sub-left : tie.Need-sub-left Inv-loop μ-loop
 sub-left c = search needs
@@ -48,7 +49,7 @@ loop-less : tie.Need-loop-less Inv-loop μ-loop
 loop-less c = search needs
 
 loop-again : tie.Need-loop-again Inv-loop μ-loop
-loop-again c = seek-next (c .before .before .before .before .before .before .loop .inv) (omega arith) (c .before .before .before .before .key-past .ensures) (side-more _ (c .before .before .compare .ensures) (c .before .if1 .left) (c .if2 .left))
+loop-again c = seek-next (c .before .before .before .before .before .before .loop .inv) (omega arith) (c .before .before .before .before .key-past .ensures) (is-more (c .before .before .compare .ensures) (c .before .if1 .left) (c .if2 .left))
 
 returns-3 : tie.Need-returns-3 Inv-loop μ-loop
 returns-3 c = seek-end (c .before .loop .inv) (omega arith)
