@@ -2,56 +2,57 @@
 ghost use mathlib.Core.Path.{_≡_};
 ghost use Prim.Native.Nat.{_≤_};
 ghost use lib.ListN.{length};
-ghost use Rattle.replay.specs.Fed.{FedIs};
+ghost use Rattle.replay.specs.Left.{LeftIs};
 use libc::STDIN_FILENO;
 use libc::STDOUT_FILENO;
+use lines::put_stop;
 use manager::transaction_manager::new;
 use room::ceilings::SIZE;
-use script::lines::LINE_LIMIT;
-use script::lines::put_line;
-use script::lines::put_stop;
-use script::records::Next;
-use script::records::next_record;
-use script::served::serve_record;
+use script::feed::Fed;
+use script::feed::feed;
 
 // More than the longest record, so that a partial one leaves place for the next read.
 const BUFFER: usize = 131072;
 
+// Lines that are written at once.
+const LINES: usize = 65536;
+
 // No input gets here; the loop's end is proved by it.
 const OFFSET_LIMIT: u64 = 0x8000000000000000;
 
-fn say(status: u8, value: u64) {
-    let mut line = [0u8; LINE_LIMIT];
-    let n = put_line(&mut line, 0, status, value);
-    io::write_all(STDOUT_FILENO, &line[0..n]);
+fn say_stop(lines: &mut [u8], offset: u64)
+    requires { ⌜ length (now lines) ≡ 65536 ⌝ }
+{
+    let n = put_stop(lines, 0, offset);
+    io::write_all(STDOUT_FILENO, &lines[0..n]);
 }
 
-fn say_stop(offset: u64) {
-    let mut line = [0u8; LINE_LIMIT];
-    let n = put_stop(&mut line, 0, offset);
-    io::write_all(STDOUT_FILENO, &line[0..n]);
-}
-
-// What a piece of input came to: the place of the record that is not whole yet, or of the one that ends the run.
-enum Fed {
-    Upto(usize),
+// What is left of a piece: from the record that is not whole yet, or from the one that ends the run.
+enum Left {
+    More(usize),
     Stop(usize),
 }
 
-// Serves the whole records of a piece, and writes their lines.
-fn feed(room: &mut [u8], bytes: &[u8]) -> Fed
-    ensures { λ r. ⌜ FedIs (now (bytes .entry)) r ⌝ }
+// Feeds a piece, and writes the lines whenever they fill their place.
+fn play_piece(room: &mut [u8], piece: &[u8], lines: &mut [u8]) -> Left
+    requires { ⌜ length (now lines) ≡ 65536 ⌝ }
+    ensures { λ r. ⌜ LeftIs (now (piece .entry)) r ⌝ }
 {
-    let mut at = 0;
+    let mut from = 0;
     loop {
-        match next_record(bytes, at) {
-            Next::Whole { tag, from, to } => {
-                let answer = serve_record(room, tag, &bytes[from..to]);
-                say(answer.status, answer.value);
-                at = to;
+        match feed(room, &piece[from..], lines) {
+            Fed::Full { at, put } => {
+                io::write_all(STDOUT_FILENO, &lines[0..put]);
+                from += at;
             }
-            Next::More => return Fed::Upto(at),
-            Next::Stop => return Fed::Stop(at),
+            Fed::More { at, put } => {
+                io::write_all(STDOUT_FILENO, &lines[0..put]);
+                return Left::More(from + at);
+            }
+            Fed::Stop { at, put } => {
+                io::write_all(STDOUT_FILENO, &lines[0..put]);
+                return Left::Stop(from + at);
+            }
         }
     }
 }
@@ -65,9 +66,9 @@ fn read_on(buffer: &mut [u8], have: usize) -> usize
     have + io::count(got, &buffer[have..])
 }
 
-// Feeds the input in the pieces that it comes in; what is not whole yet is held at the buffer's front.
-fn play(room: &mut [u8], buffer: &mut [u8])
-    requires { ⌜ length (now buffer) ≡ 131072 ⌝ }
+// Plays the input in the pieces that it comes in; what is not whole yet is held at the buffer's front.
+fn play(room: &mut [u8], buffer: &mut [u8], lines: &mut [u8])
+    requires { ⌜ (length (now buffer) ≡ 131072) × (length (now lines) ≡ 65536) ⌝ }
 {
     let mut held = 0;
     let mut offset = 0;
@@ -75,18 +76,18 @@ fn play(room: &mut [u8], buffer: &mut [u8])
         let have = read_on(buffer, held);
         if have <= held {
             if 0 < held {
-                say_stop(offset);
+                say_stop(lines, offset);
             }
             return;
         }
-        match feed(room, &buffer[0..have]) {
-            Fed::Upto(at) => {
+        match play_piece(room, &buffer[0..have], lines) {
+            Left::More(at) => {
                 held = have - at;
                 moves::move_down(buffer, at, 0, held);
                 offset += at as u64;
             }
-            Fed::Stop(at) => {
-                say_stop(offset + at as u64);
+            Left::Stop(at) => {
+                say_stop(lines, offset + at as u64);
                 return;
             }
         }
@@ -96,6 +97,7 @@ fn play(room: &mut [u8], buffer: &mut [u8])
 fn main() {
     let mut room = [0u8; SIZE];
     let mut buffer = [0u8; BUFFER];
+    let mut lines = [0u8; LINES];
     new(&mut room, 0);
-    play(&mut room, &mut buffer);
+    play(&mut room, &mut buffer, &mut lines);
 }

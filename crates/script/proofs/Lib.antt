@@ -1,3 +1,2 @@
-pub mod RecordLaws
-pub mod LineLaws
 pub mod CallLaws
+pub mod PlayedLaws

@@ -1,3 +1,2 @@
-pub mod Lines
 pub mod Script
-pub mod Records
+pub mod Played

@@ -1,4 +1,3 @@
-// Scripts: the record at a place, the call that it is, and the lines that are printed.
-pub mod lines;
-pub mod records;
+// Scripts: the call that a record is, and records served one after the other.
+pub mod feed;
 pub mod served;

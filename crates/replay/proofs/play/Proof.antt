@@ -5,22 +5,21 @@ use native.Mathlib.Omega.{arith}
 use borrow.Author.Needs.{needs}
 use lib.ListN.{length, take}
 use lib.Seq.{length-take-le}
-use Rattle.replay.specs.Fed.{Held, Stopped}
+use Rattle.replay.specs.Left.{Held, Stopped}
 use Rattle.replay.proofs.play.Statement.{statement}
 use Rattle.replay.proofs.play.Tie as tie
 use Rattle.replay.proofs.play.Reads as reads
 use Rattle.replay.proofs.play.Lts as lts
 use Rattle.moves.proofs.move_down.Reads as move-down-reads
-use Rattle.replay.proofs.feed.Reads as feed-reads
+use Rattle.replay.proofs.play_piece.Reads as play-piece-reads
 use Rattle.replay.proofs.read_on.Reads as read-on-reads
 use Rattle.replay.proofs.say_stop.Reads as say-stop-reads
 
 abbrev Inv-loop : tie.InvT-loop
-Inv-loop room₀ buffer₀ held₀ offset₀ room buffer held offset =
-    (length room ≡ length room₀) × ((length buffer ≡ length buffer₀) × ((length buffer ≡ 131072) × (held < 32771)))
+Inv-loop room₀ buffer₀ lines₀ held₀ offset₀ room buffer lines held offset = (length room ≡ length room₀) × ((length buffer ≡ length buffer₀) × ((length lines ≡ length lines₀) × ((length buffer ≡ 131072) × ((length lines ≡ 65536) × (held < 32771)))))
 
 abbrev μ-loop : tie.MeasureT-loop
-μ-loop room₀ buffer₀ held₀ offset₀ room buffer held offset = 9223372036854975808 - (offset + held)
+μ-loop room₀ buffer₀ lines₀ held₀ offset₀ room buffer lines held offset = 9223372036854975808 - (offset + held)
 
 held-of : (s : List ℕ) (n : ℕ) {at : ℕ} → Held (take (n - 0) s) at → n ≤ length s → (at ≤ n) × (n < at + 32771)
 held-of s n {at} h k =
@@ -35,121 +34,137 @@ stopped-of s n {at} h k =
     omega (arith, h .inside, e)
 
 -- what is left of the piece
-fed : (c : tie.After-at Inv-loop μ-loop) → (c .at .given .0 .0 ≤ c .before .before .before .before .before .before .before .before .before .before .before .read-on .result) × (c .before .before .before .before .before .before .before .before .before .before .before .read-on .result < c .at .given .0 .0 + 32771)
-fed c = held-of (c .before .before .before .before .before .before .before .before .before .before .before .read-on .last .0) (c .before .before .before .before .before .before .before .before .before .before .before .read-on .result) (rw (c .at .given .1) at (c .before .before .before .before .feed .ensures)) (omega (arith, c .before .before .before .before .before .before .before .before .before .before .before .read-on .ensures .1))
+fed : (c : tie.After-at Inv-loop μ-loop) → (c .at .given .0 .0 ≤ c .before .before .before .before .before .before .before .before .before .before .before .before .before .before .read-on .result) × (c .before .before .before .before .before .before .before .before .before .before .before .before .before .before .read-on .result < c .at .given .0 .0 + 32771)
+fed c = held-of (c .before .before .before .before .before .before .before .before .before .before .before .before .before .before .read-on .last .0) (c .before .before .before .before .before .before .before .before .before .before .before .before .before .before .read-on .result) (rw (c .at .given .1) at (c .before .before .before .before .before .before .play-piece .ensures)) (omega (arith, c .before .before .before .before .before .before .before .before .before .before .before .before .before .before .read-on .ensures .1))
 
-fed2 : (c : tie.After-at2 Inv-loop μ-loop) → c .at2 .given .0 .0 ≤ c .before .before .before .before .before .before .before .before .before .before .before .read-on .result
-fed2 c = stopped-of (c .before .before .before .before .before .before .before .before .before .before .before .read-on .last .0) (c .before .before .before .before .before .before .before .before .before .before .before .read-on .result) (rw (c .at2 .given .1) at (c .before .before .before .before .feed .ensures)) (omega (arith, c .before .before .before .before .before .before .before .before .before .before .before .read-on .ensures .1))
+fed2 : (c : tie.After-at2 Inv-loop μ-loop) → c .at2 .given .0 .0 ≤ c .before .before .before .before .before .before .before .before .before .before .before .before .before .before .read-on .result
+fed2 c = stopped-of (c .before .before .before .before .before .before .before .before .before .before .before .before .before .before .read-on .last .0) (c .before .before .before .before .before .before .before .before .before .before .before .before .before .before .read-on .result) (rw (c .at2 .given .1) at (c .before .before .before .before .before .before .play-piece .ensures)) (omega (arith, c .before .before .before .before .before .before .before .before .before .before .before .before .before .before .read-on .ensures .1))
 
--- src/main.rt:74:5
+-- src/main.rt:75:5
 loop-holds : tie.Need-loop-holds Inv-loop μ-loop
-loop-holds c = (refl, (refl, (c .before .before .pre, omega arith)))
+loop-holds c = (refl, (refl, (refl, (c .before .before .before .pre .0, (c .before .before .before .pre .1, omega arith)))))
 
--- src/main.rt:75:13
+-- src/main.rt:76:13
 read-on-requires : tie.Need-read-on-requires Inv-loop μ-loop
 read-on-requires c κs = omega (arith, c .before .before .loop .inv)
 
--- src/main.rt:78:17
+-- src/main.rt:79:17
 say-stop-requires : tie.Need-say-stop-requires Inv-loop μ-loop
-say-stop-requires c κs = tt
+say-stop-requires c κs = omega (arith, c .before .before .before .before .before .before .before .before .loop .inv)
 
--- src/main.rt:80:13
+-- src/main.rt:81:13
 same-length : tie.Need-same-length Inv-loop μ-loop
-same-length c = omega (arith, c .before .before .before .before .before .before .before .before .loop .inv .0)
+same-length c = omega (arith, c .before .before .before .before .before .before .before .before .before .before .before .loop .inv)
 
--- src/main.rt:80:13
+-- src/main.rt:81:13
 same-length-2 : tie.Need-same-length-2 Inv-loop μ-loop
-same-length-2 c = omega (arith, c .before .before .before .before .before .before .before .before .loop .inv .1 .0)
+same-length-2 c = omega (arith, c .before .before .before .before .before .before .before .before .before .before .before .loop .inv)
 
--- src/main.rt:80:13
+-- src/main.rt:81:13
+same-length-3 : tie.Need-same-length-3 Inv-loop μ-loop
+same-length-3 c = omega (arith, c .before .before .before .before .before .before .before .before .before .before .before .loop .inv)
+
+-- src/main.rt:81:13
 returns : tie.Need-returns Inv-loop μ-loop
 returns c = tt
 
--- src/main.rt:80:13
-same-length-3 : tie.Need-same-length-3 Inv-loop μ-loop
-same-length-3 c = omega (arith, c .before .before .before .before .before .before .before .loop .inv .0)
-
--- src/main.rt:80:13
+-- src/main.rt:81:13
 same-length-4 : tie.Need-same-length-4 Inv-loop μ-loop
-same-length-4 c = omega (arith, c .before .before .before .before .before .before .before .loop .inv .1 .0)
+same-length-4 c = omega (arith, c .before .before .before .before .before .before .before .loop .inv)
 
--- src/main.rt:80:13
+-- src/main.rt:81:13
+same-length-5 : tie.Need-same-length-5 Inv-loop μ-loop
+same-length-5 c = omega (arith, c .before .before .before .before .before .before .before .loop .inv)
+
+-- src/main.rt:81:13
+same-length-6 : tie.Need-same-length-6 Inv-loop μ-loop
+same-length-6 c = omega (arith, c .before .before .before .before .before .before .before .loop .inv)
+
+-- src/main.rt:81:13
 returns-2 : tie.Need-returns-2 Inv-loop μ-loop
 returns-2 c = tt
 
--- src/main.rt:82:26
-sub-feed : tie.Need-sub-feed Inv-loop μ-loop
-sub-feed c = omega arith
+-- src/main.rt:83:32
+sub-play-piece : tie.Need-sub-play-piece Inv-loop μ-loop
+sub-play-piece c = omega arith
 
--- src/main.rt:82:26
-part-feed-start : tie.Need-part-feed-start Inv-loop μ-loop
-part-feed-start c = omega arith
+-- src/main.rt:83:32
+part-play-piece-start : tie.Need-part-play-piece-start Inv-loop μ-loop
+part-play-piece-start c = omega arith
 
--- src/main.rt:82:26
-part-feed-end : tie.Need-part-feed-end Inv-loop μ-loop
-part-feed-end c = omega (arith, c .before .before .before .before .before .read-on .ensures .1)
+-- src/main.rt:83:32
+part-play-piece-end : tie.Need-part-play-piece-end Inv-loop μ-loop
+part-play-piece-end c = omega (arith, c .before .before .before .before .before .read-on .ensures .1)
 
--- src/main.rt:82:15
-feed-requires : tie.Need-feed-requires Inv-loop μ-loop
-feed-requires c κs = tt
+-- src/main.rt:83:15
+play-piece-requires : tie.Need-play-piece-requires Inv-loop μ-loop
+play-piece-requires c κs = omega (arith, c .before .before .before .before .before .before .before .before .before .before .loop .inv)
 
--- src/main.rt:83:23
+-- src/main.rt:84:24
 enum-known-at : tie.Need-enum-known-at Inv-loop μ-loop
 enum-known-at c = search needs
 
--- src/main.rt:84:24
+-- src/main.rt:85:24
 sub-held : tie.Need-sub-held Inv-loop μ-loop
 sub-held c = omega (arith, fed (c .before))
 
--- src/main.rt:85:17
-move-down-requires : tie.Need-move-down-requires Inv-loop μ-loop
-move-down-requires c κs = (omega arith, omega (arith, fed (c .before .before), c .before .before .before .before .before .before .before .before .before .before .before .before .before .read-on .ensures .1))
-
 -- src/main.rt:86:17
+move-down-requires : tie.Need-move-down-requires Inv-loop μ-loop
+move-down-requires c κs = (omega arith, omega (arith, fed (c .before .before), c .before .before .before .before .before .before .before .before .before .before .before .before .before .before .before .before .read-on .ensures .1))
+
+-- src/main.rt:87:17
 add-offset : tie.Need-add-offset Inv-loop μ-loop
-add-offset c = omega (arith, fed (c .before .before .before .before .before), c .before .before .before .before .before .before .before .before .before .before .before .before .before .before .before .before .read-on .ensures .1, c .before .before .before .before .before .before .before .before .before .before .before .before .before .before .before .before .before .before .before .loop .inv)
+add-offset c = omega (arith, fed (c .before .before .before .before .before), c .before .before .before .before .before .before .before .before .before .before .before .before .before .before .before .before .before .before .before .read-on .ensures .1, c .before .before .before .before .before .before .before .before .before .before .before .before .before .before .before .before .before .before .before .before .before .before .loop .inv)
 
--- src/main.rt:74:5
+-- src/main.rt:75:5
 loop-less : tie.Need-loop-less Inv-loop μ-loop
-loop-less c = omega (arith, fed (c .before .before .before .before .before), c .before .before .before .before .before .before .before .before .before .before .before .before .before .before .before .before .read-on .ensures, c .before .before .before .before .before .before .before .before .before .before .before .before .before .before .before .before .before .before .before .loop .inv)
+loop-less c = omega (arith, fed (c .before .before .before .before .before), c .before .before .before .before .before .before .before .before .before .before .before .before .before .before .before .before .before .before .before .read-on .ensures, c .before .before .before .before .before .before .before .before .before .before .before .before .before .before .before .before .before .before .before .before .before .before .loop .inv)
 
--- src/main.rt:74:5
+-- src/main.rt:75:5
 loop-again : tie.Need-loop-again Inv-loop μ-loop
-loop-again c = (omega (arith, c .before .before .before .before .before .before .before .before .before .before .before .before .before .before .before .before .before .before .before .loop .inv .0), (omega (arith, c .before .before .before .before .before .before .before .before .before .before .before .before .before .before .before .before .before .before .before .loop .inv .1 .0), (omega (arith, c .before .before .before .before .before .before .before .before .before .before .before .before .before .before .before .before .before .before .before .loop .inv .1 .1 .0), omega (arith, fed (c .before .before .before .before .before)))))
+loop-again c = (omega (arith, c .before .before .before .before .before .before .before .before .before .before .before .before .before .before .before .before .before .before .before .before .before .before .loop .inv), (omega (arith, c .before .before .before .before .before .before .before .before .before .before .before .before .before .before .before .before .before .before .before .before .before .before .loop .inv), (omega (arith, c .before .before .before .before .before .before .before .before .before .before .before .before .before .before .before .before .before .before .before .before .before .before .loop .inv), (omega (arith, c .before .before .before .before .before .before .before .before .before .before .before .before .before .before .before .before .before .before .before .before .before .before .loop .inv), (omega (arith, c .before .before .before .before .before .before .before .before .before .before .before .before .before .before .before .before .before .before .before .before .before .before .loop .inv), omega (arith, fed (c .before .before .before .before .before)))))))
 
--- src/main.rt:88:23
+-- src/main.rt:89:24
 enum-known-at-2 : tie.Need-enum-known-at-2 Inv-loop μ-loop
 enum-known-at-2 c = search needs
 
--- src/main.rt:89:26
+-- src/main.rt:90:33
 add-say-stop : tie.Need-add-say-stop Inv-loop μ-loop
-add-say-stop c = omega (arith, fed2 (c .before), c .before .before .before .before .before .before .before .before .before .before .before .before .read-on .ensures .1, c .before .before .before .before .before .before .before .before .before .before .before .before .before .before .before .loop .inv)
+add-say-stop c = omega (arith, fed2 (c .before .before), c .before .before .before .before .before .before .before .before .before .before .before .before .before .before .before .before .read-on .ensures .1, c .before .before .before .before .before .before .before .before .before .before .before .before .before .before .before .before .before .before .before .loop .inv)
 
--- src/main.rt:89:17
+-- src/main.rt:90:17
 say-stop-requires-2 : tie.Need-say-stop-requires-2 Inv-loop μ-loop
-say-stop-requires-2 c κs = tt
+say-stop-requires-2 c κs = omega (arith, c .before .before .before .before .before .before .before .before .before .before .before .before .before .before .before .before .before .before .before .loop .inv)
 
--- src/main.rt:90:17
-same-length-5 : tie.Need-same-length-5 Inv-loop μ-loop
-same-length-5 c = omega (arith, c .before .before .before .before .before .before .before .before .before .before .before .before .before .before .before .before .loop .inv .0)
+-- src/main.rt:91:17
+same-length-7 : tie.Need-same-length-7 Inv-loop μ-loop
+same-length-7 c = omega (arith, c .before .before .before .before .before .before .before .before .before .before .before .before .before .before .before .before .before .before .before .before .before .before .loop .inv)
 
--- src/main.rt:90:17
-same-length-6 : tie.Need-same-length-6 Inv-loop μ-loop
-same-length-6 c = omega (arith, c .before .before .before .before .before .before .before .before .before .before .before .before .before .before .before .before .loop .inv .1 .0)
+-- src/main.rt:91:17
+same-length-8 : tie.Need-same-length-8 Inv-loop μ-loop
+same-length-8 c = omega (arith, c .before .before .before .before .before .before .before .before .before .before .before .before .before .before .before .before .before .before .before .before .before .before .loop .inv)
 
--- src/main.rt:90:17
+-- src/main.rt:91:17
+same-length-9 : tie.Need-same-length-9 Inv-loop μ-loop
+same-length-9 c = omega (arith, c .before .before .before .before .before .before .before .before .before .before .before .before .before .before .before .before .before .before .before .before .before .before .loop .inv)
+
+-- src/main.rt:91:17
 returns-3 : tie.Need-returns-3 Inv-loop μ-loop
 returns-3 c = tt
 
--- src/main.rt:69:1
-same-length-7 : tie.Need-same-length-7 Inv-loop μ-loop
-same-length-7 c = c .before .loop .inv .0
+-- src/main.rt:70:1
+same-length-10 : tie.Need-same-length-10 Inv-loop μ-loop
+same-length-10 c = c .before .loop .inv .0
 
--- src/main.rt:69:1
-same-length-8 : tie.Need-same-length-8 Inv-loop μ-loop
-same-length-8 c = c .before .loop .inv .1 .0
+-- src/main.rt:70:1
+same-length-11 : tie.Need-same-length-11 Inv-loop μ-loop
+same-length-11 c = c .before .loop .inv .1 .0
 
--- src/main.rt:69:1
+-- src/main.rt:70:1
+same-length-12 : tie.Need-same-length-12 Inv-loop μ-loop
+same-length-12 c = c .before .loop .inv .1 .1 .0
+
+-- src/main.rt:70:1
 returns-4 : tie.Need-returns-4 Inv-loop μ-loop
 returns-4 c = tt
 
@@ -164,14 +179,16 @@ play-spec =
     say-stop-requires
     same-length
     same-length-2
-    returns
     same-length-3
+    returns
     same-length-4
+    same-length-5
+    same-length-6
     returns-2
-    sub-feed
-    part-feed-start
-    part-feed-end
-    feed-requires
+    sub-play-piece
+    part-play-piece-start
+    part-play-piece-end
+    play-piece-requires
     enum-known-at
     sub-held
     move-down-requires
@@ -181,9 +198,11 @@ play-spec =
     enum-known-at-2
     add-say-stop
     say-stop-requires-2
-    same-length-5
-    same-length-6
-    returns-3
     same-length-7
     same-length-8
+    same-length-9
+    returns-3
+    same-length-10
+    same-length-11
+    same-length-12
     returns-4)

@@ -1,0 +1,58 @@
+-- What has been decided of the front of some bytes stays, whatever bytes come behind them.
+use Prim.Native.Nat.{ℕ, _+_, _*_, _≤_}
+use mathlib.Core.Path.{_≡_, refl, sym, ap, _∙_}
+use mathlib.Core.Bool.{Bool, true, false, cond, false≢true}
+use mathlib.Core.List.{List, [], _∷_, _++_}
+use native.Mathlib.Omega.{arith}
+use borrow.Author.Tests.{le-leb, leb-true}
+use lib.Dec.{leb}
+use lib.ListN.{length, take, drop, length-append}
+use lib.Seq.{take-append-le, drop-append-le}
+use Rattle.records.proofs.RecordLaws.{next-unknown}
+use Rattle.records.specs.Stream.{Next, whole, more, stop, known, next, headed}
+
+abbrev decided : Next → Bool
+decided (whole tag p rest) = true
+decided more = false
+decided stop = true
+
+abbrev behind : List ℕ → Next → Next
+behind c (whole tag p rest) = whole tag p (rest ++ c)
+behind c more = more
+behind c stop = stop
+
+headed-stays : (c : List ℕ) (tag n : ℕ) (bs : List ℕ) → decided (headed tag n bs) ≡ true → headed tag n (bs ++ c) ≡ behind c (headed tag n bs)
+headed-stays c tag n bs = go (leb n 32768) (leb n (length bs)) refl
+  where
+    at : Bool → Bool → List ℕ → Next
+    at u v l = cond u (cond v (whole tag (take n l) (drop n l)) more) stop
+
+    go : (u v : Bool) → leb n (length bs) ≡ v → decided (at u v bs) ≡ true → at u (leb n (length (bs ++ c))) (bs ++ c) ≡ behind c (at u v bs)
+    go false v e d = refl
+    go true false e d = absurd (false≢true d)
+    go true true e d =
+        let h : n ≤ length bs = leb-true n (length bs) e in
+        rw (le-leb n (length (bs ++ c)) (rw (length-append bs c) (omega (arith, h))), take-append-le n bs c h, drop-append-le n bs c h)
+
+short-stays : (t : ℕ) (c l : List ℕ) → decided (cond (known t) more stop) ≡ true → next (t ∷ l) ≡ behind c (cond (known t) more stop)
+short-stays t c l = go (known t) refl
+  where
+    go : (b : Bool) → known t ≡ b → decided (cond b more stop) ≡ true → next (t ∷ l) ≡ behind c (cond b more stop)
+    go true e d = absurd (false≢true d)
+    go false e d = next-unknown t l e
+
+stays : (c bs : List ℕ) → decided (next bs) ≡ true → next (bs ++ c) ≡ behind c (next bs)
+stays c [] d = absurd (false≢true d)
+stays c (t ∷ []) d = short-stays t c c d
+stays c (t ∷ h ∷ []) d = short-stays t c (h ∷ c) d
+stays c (t ∷ h ∷ l ∷ bs) d = go (known t) d
+  where
+    go : (b : Bool) → decided (cond b (headed t (h * 256 + l) bs) stop) ≡ true → cond b (headed t (h * 256 + l) (bs ++ c)) stop ≡ behind c (cond b (headed t (h * 256 + l) bs) stop)
+    go true d = headed-stays c t (h * 256 + l) bs d
+    go false d = refl
+
+pub whole-stays : (bs c : List ℕ) {p rest : List ℕ} {tag : ℕ} → next bs ≡ whole tag p rest → next (bs ++ c) ≡ whole tag p (rest ++ c)
+whole-stays bs c e = stays c bs (ap decided e) ∙ ap (behind c) e
+
+pub stop-stays : (bs c : List ℕ) → next bs ≡ stop → next (bs ++ c) ≡ stop
+stop-stays bs c e = stays c bs (ap decided e) ∙ ap (behind c) e

@@ -1,0 +1,49 @@
+-- Records served one after the other: a piece more, and pieces that follow each other.
+use Prim.Native.Nat.{ℕ, _+_, _-_, _≤_}
+use mathlib.Core.Path.{refl, ap, _∙_}
+use mathlib.Core.List.{List, _++_, append-assoc, append-nil}
+use native.Mathlib.Omega.{arith}
+use lib.ListN.{length, take, drop}
+use Rattle.moves.proofs.SpliceLaws.{drop-take, later}
+use Rattle.lines.specs.Lines.{lineOf, Put}
+use Rattle.lines.proofs.LineLaws.{put-front, put-behind, put-size}
+use Rattle.records.specs.Stream.{whole}
+use Rattle.records.specs.Records.{WholeAt}
+use Rattle.records.proofs.StreamLaws.{whole-stays}
+use Rattle.layout.specs.Rooms.{Served}
+use Rattle.script.specs.Script.{called}
+use Rattle.script.specs.Played.{Played, still, onward, FedTo}
+
+-- nothing is served yet
+pub fed-none : (room bs out : List ℕ) → FedTo room bs out 0 0 room out
+fed-none room bs out = record { inside = omega arith; fits = omega arith; played = still; kept = refl; size = refl; rate = omega arith }
+
+-- one record more
+pub fed-on : {room bs out room1 out1 room2 out2 : List ℕ} {at put tag from to status value put2 : ℕ} → FedTo room bs out at put room1 out1
+    → WholeAt bs at tag from to → Served room1 (called tag (take (to - from) (drop from bs))) status value room2 → Put out1 put (lineOf status value) put2 out2
+    → length (lineOf status value) ≤ 26 → put + 26 ≤ length out1 → FedTo room bs out to put2 room2 out2
+fed-on {room} {bs} {out} {room1} {out1} {room2} {out2} {at} {put} {tag} {from} {to} {status} {value} {put2} f w s p short fits =
+    record {
+      inside = w .inside;
+      fits = omega (arith, f .size, p .ends, short, fits);
+      played = rw (put-front p (omega (arith, short, fits))) (onward (f .played) (w .reads ∙ ap (λ (p : List ℕ). whole tag p (drop to bs)) (drop-take from to bs)) s);
+      kept = put-behind p (omega (arith, short, fits)) ∙ later out out1 put put2 (omega (arith, p .ends)) (f .kept);
+      size = put-size p (omega (arith, short, fits)) ∙ f .size;
+      rate = omega (arith, f .rate, w .begins, w .order, p .ends, short);
+    }
+
+-- what follows records that were served may be served on its own
+pub played-on : {room bs text rest left text' rest' left' : List ℕ} → Played room bs text rest left → Played left rest text' rest' left'
+    → Played room bs (text ++ text') rest' left'
+played-on p still = rw append-nil p
+played-on p (onward q e s) = rw (← append-assoc) (onward (played-on p q) e s)
+
+-- bytes that come behind change nothing of what was served
+pub played-stays : {room bs text rest left : List ℕ} (c : List ℕ) → Played room bs text rest left → Played room (bs ++ c) text (rest ++ c) left
+played-stays c still = still
+played-stays {room} {bs} c (onward {rest = r} p e s) = onward (played-stays c p) (whole-stays r c e) s
+
+-- "However the bytes are cut": a piece, and then the bytes that it left with the next piece behind them, are both pieces at once
+pub played-in-pieces : {room bs text rest left text' rest' left' : List ℕ} (c : List ℕ) → Played room bs text rest left
+    → Played left (rest ++ c) text' rest' left' → Played room (bs ++ c) (text ++ text') rest' left'
+played-in-pieces c p q = played-on (played-stays c p) q
