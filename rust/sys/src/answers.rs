@@ -2,22 +2,10 @@
 
 use std::ops::Bound;
 
-pub const UNBOUNDED: u8 = 0x10;
-pub const INCLUDED: u8 = 0x11;
-pub const EXCLUDED: u8 = 0x12;
+pub use stranvek::numbers::{EXCLUDED, INCLUDED, KEY_LIMIT, UNBOUNDED};
 
-/// The longest key that the library makes or lets into a range.
-pub const KEY_LIMIT: usize = 512;
-
-/// The statuses; the range part answers `DONE`, `KEY_TOO_LONG` and `EMPTY_RANGE` alone.
-pub const DONE: u8 = 0;
-pub const NOT_ACTIVE: u8 = 1;
-pub const BADLY_FORMED: u8 = 2;
-pub const ALREADY_ACTIVE: u8 = 3;
-pub const KEY_TOO_LONG: u8 = 4;
-pub const EMPTY_RANGE: u8 = 5;
-pub const NO_ROOM_LEFT: u8 = 6;
-pub const NOT_A_ROOM: u8 = 7;
+/// The statuses that the range part answers.
+pub use stranvek::numbers::{DONE, EMPTY_RANGE, KEY_TOO_LONG};
 
 /// Where a bound of a `Pair` comes from.
 pub const FIRST: u8 = 0;
@@ -122,12 +110,4 @@ pub struct MadeKeys {
     pub status: u8,
     pub start: Key,
     pub end: Key,
-}
-
-/// What a call on a room answers: the value is the call's own where the status is `DONE`.
-#[repr(C)]
-#[derive(Clone, Copy, Debug, PartialEq, Eq)]
-pub struct Answer {
-    pub status: u8,
-    pub value: u64,
 }

@@ -1,13 +1,11 @@
 //! The library's functions, on slices: the one place of unsafe code.
 //!
 //! One reason makes every call here safe: each pointer goes with the length of the slice that it came from, and that slice
-//! is lent through the call, a room that is written as `&mut`. The library reads no other memory (that is proved), writes
-//! none but its answer and the room, and keeps nothing. The helpers are private and are handed the archives' functions alone.
+//! is lent through the call. The library reads no other memory (that is proved), writes none but its answer, and keeps nothing.
+//! The helpers are private and are handed the archive's functions alone.
 #![allow(unsafe_code)]
 
-use crate::answers::{
-    Answer, Compared, MadeKey, MadeKeys, NewRange, Pair, RawBound, RawRange, Told,
-};
+use crate::answers::{Compared, MadeKey, MadeKeys, NewRange, Pair, RawBound, RawRange, Told};
 
 // A line for each argument of the library's own signature: a slice passes as its pointer and its length.
 #[rustfmt::skip]
@@ -74,47 +72,6 @@ extern "C" {
         start_kind: u8, start_key: *const u8, start_len: usize,
         end_kind: u8, end_key: *const u8, end_len: usize,
     ) -> MadeKeys;
-
-    fn stranvek_room_size() -> usize;
-    fn stranvek_new(room: *mut u8, room_len: usize, last: u64) -> Answer;
-    fn stranvek_new_transaction(
-        room: *mut u8, room_len: usize,
-        id: *const u8, id_len: usize,
-    ) -> Answer;
-    fn stranvek_drop_txn(
-        room: *mut u8, room_len: usize,
-        id: *const u8, id_len: usize,
-    ) -> Answer;
-    fn stranvek_track_write_keys(
-        room: *mut u8, room_len: usize,
-        id: *const u8, id_len: usize,
-        keys: *const u8, keys_len: usize,
-    ) -> Answer;
-    fn stranvek_track_read_keys(
-        room: *mut u8, room_len: usize,
-        id: *const u8, id_len: usize,
-        keys: *const u8, keys_len: usize,
-    ) -> Answer;
-    fn stranvek_track_read_range(
-        room: *mut u8, room_len: usize,
-        id: *const u8, id_len: usize,
-        range: *const u8, range_len: usize,
-    ) -> Answer;
-    fn stranvek_check_has_conflict(
-        room: *const u8, room_len: usize,
-        id: *const u8, id_len: usize,
-    ) -> Answer;
-    fn stranvek_track_recent_committed_txn(
-        room: *mut u8, room_len: usize,
-        id: *const u8, id_len: usize,
-        seq: u64,
-    ) -> Answer;
-    fn stranvek_track_recent_committed_write_batch(
-        room: *mut u8, room_len: usize,
-        keys: *const u8, keys_len: usize,
-        seq: u64,
-    ) -> Answer;
-    fn stranvek_min_active_seq(room: *const u8, room_len: usize) -> Answer;
 }
 
 type OnKey<A> = unsafe extern "C" fn(*const u8, usize) -> A;
@@ -125,10 +82,6 @@ type OnTwoRanges<A> = unsafe extern "C" fn(
     u8, *const u8, usize, u8, *const u8, usize,
     u8, *const u8, usize, u8, *const u8, usize,
 ) -> A;
-type InRoom = unsafe extern "C" fn(*mut u8, usize, *const u8, usize) -> Answer;
-type InRoomAt = unsafe extern "C" fn(*mut u8, usize, *const u8, usize, u64) -> Answer;
-type InRoomWith =
-    unsafe extern "C" fn(*mut u8, usize, *const u8, usize, *const u8, usize) -> Answer;
 
 fn on_key<A>(call: OnKey<A>, key: &[u8]) -> A {
     // SAFETY: the pointer and the length are one lent slice's.
@@ -159,24 +112,6 @@ fn on_two_ranges<A>(call: OnTwoRanges<A>, a: RawRange, b: RawRange) -> A {
             b.start.kind, b.start.key.as_ptr(), b.start.key.len(),
             b.end.kind, b.end.key.as_ptr(), b.end.key.len(),
         )
-    }
-}
-
-fn in_room(call: InRoom, room: &mut [u8], bytes: &[u8]) -> Answer {
-    // SAFETY: each pointer and the length after it are one lent slice's, the room's a `&mut` one.
-    unsafe { call(room.as_mut_ptr(), room.len(), bytes.as_ptr(), bytes.len()) }
-}
-
-fn in_room_at(call: InRoomAt, room: &mut [u8], bytes: &[u8], seq: u64) -> Answer {
-    // SAFETY: as in `in_room`.
-    unsafe { call(room.as_mut_ptr(), room.len(), bytes.as_ptr(), bytes.len(), seq) }
-}
-
-#[rustfmt::skip]
-fn in_room_with(call: InRoomWith, room: &mut [u8], id: &[u8], bytes: &[u8]) -> Answer {
-    // SAFETY: as in `in_room`.
-    unsafe {
-        call(room.as_mut_ptr(), room.len(), id.as_ptr(), id.len(), bytes.as_ptr(), bytes.len())
     }
 }
 
@@ -262,52 +197,4 @@ pub fn from_prefix_and_subrange(prefix: &[u8], subrange: RawRange) -> MadeKeys {
             end.kind, end.key.as_ptr(), end.key.len(),
         )
     }
-}
-
-/// How many bytes a room takes.
-pub fn room_size() -> usize {
-    // SAFETY: nothing is passed.
-    unsafe { stranvek_room_size() }
-}
-
-/// Makes a room fresh at a last committed number, whatever it held.
-pub fn new(room: &mut [u8], last: u64) -> Answer {
-    // SAFETY: the pointer and the length are one `&mut` slice's.
-    unsafe { stranvek_new(room.as_mut_ptr(), room.len(), last) }
-}
-
-pub fn new_transaction(room: &mut [u8], id: &[u8]) -> Answer {
-    in_room(stranvek_new_transaction, room, id)
-}
-
-pub fn drop_txn(room: &mut [u8], id: &[u8]) -> Answer {
-    in_room(stranvek_drop_txn, room, id)
-}
-
-pub fn track_write_keys(room: &mut [u8], id: &[u8], keys: &[u8]) -> Answer {
-    in_room_with(stranvek_track_write_keys, room, id, keys)
-}
-
-pub fn track_read_keys(room: &mut [u8], id: &[u8], keys: &[u8]) -> Answer {
-    in_room_with(stranvek_track_read_keys, room, id, keys)
-}
-
-pub fn track_read_range(room: &mut [u8], id: &[u8], range: &[u8]) -> Answer {
-    in_room_with(stranvek_track_read_range, room, id, range)
-}
-
-pub fn check_has_conflict(room: &[u8], id: &[u8]) -> Answer {
-    on_two_keys(stranvek_check_has_conflict, room, id)
-}
-
-pub fn track_recent_committed_txn(room: &mut [u8], id: &[u8], seq: u64) -> Answer {
-    in_room_at(stranvek_track_recent_committed_txn, room, id, seq)
-}
-
-pub fn track_recent_committed_write_batch(room: &mut [u8], keys: &[u8], seq: u64) -> Answer {
-    in_room_at(stranvek_track_recent_committed_write_batch, room, keys, seq)
-}
-
-pub fn min_active_seq(room: &[u8]) -> Answer {
-    on_key(stranvek_min_active_seq, room)
 }

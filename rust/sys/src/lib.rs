@@ -1,5 +1,5 @@
-//! The proved range functions, for a host in Rust: on slices and `Bound`s here, number for number in [`boundary`], where the
-//! manager's calls on a lent room stand too.
+//! The proved range functions, for a host in Rust: on slices and `Bound`s here, number for number in [`boundary`]. The
+//! manager's calls on a lent room stand in crate `stranvek`.
 //!
 //! No function asks anything of its arguments: any bytes and any bounds may be passed.
 #![deny(unsafe_code)]

@@ -7,8 +7,15 @@ use std::path::Path;
 const RATTLE: [&str; 3] = ["host/src/lib.rt", "host/src/answers.rt", "desk/src/lib.rt"];
 /// Where the room's answer is declared.
 const ROOM_ANSWER: &str = "answers/src/lib.rt";
-/// Where the key limit is declared.
-const KEYS: &str = "keys/src/lib.rt";
+/// Where the key limit and the tag of a list's keys are declared.
+const NUMBERS: [&str; 2] = ["keys/src/lib.rt", "fields/src/lib.rt"];
+/// The range part's declarations and the manager's.
+const RUST: [&str; 4] = [
+    "sys/src/boundary.rs",
+    "sys/src/answers.rs",
+    "stranvek/src/boundary.rs",
+    "stranvek/src/numbers.rs",
+];
 
 /// What is declared under a name: parameters or fields in order, then what comes back, each with its type.
 type Declared = BTreeMap<String, Vec<(String, String)>>;
@@ -22,13 +29,13 @@ fn source(path: &str) -> String {
 
 /// The Rattle source without the names of lifetimes, which say nothing of how an argument is passed.
 fn rattle() -> String {
-    let files = RATTLE.iter().chain(&[ROOM_ANSWER, KEYS]);
+    let files = RATTLE.iter().chain(&[ROOM_ANSWER]).chain(&NUMBERS);
     let text: String = files.map(|file| source(&format!("crates/{}", file))).collect();
     text.replace("<'a>", "").replace("&'a ", "&")
 }
 
 fn rust() -> String {
-    source("rust/sys/src/boundary.rs") + &source("rust/sys/src/answers.rs")
+    RUST.iter().map(|file| source(&format!("rust/{}", file))).collect()
 }
 
 /// What stands before the first of some marks.
@@ -93,8 +100,9 @@ fn each_exported_function_is_declared_as_it_is() {
         .map(|(name, list)| (name, list.iter().flat_map(passed).collect()))
         .collect();
     let rust = rust();
-    let block = rust.split("extern \"C\" {").nth(1).expect("the declarations");
-    let declared = functions(until(block, &["\n}"]), "fn ", &[";"]);
+    let blocks = rust.split("extern \"C\" {").skip(1);
+    let blocks: String = blocks.map(|block| until(block, &["\n}"])).collect();
+    let declared = functions(&blocks, "fn ", &[";"]);
     assert_eq!(due.len(), 16 + 11);
     for (name, list) in &due {
         assert_eq!(declared.get(name), Some(list), "{}", name);
@@ -118,7 +126,8 @@ fn each_struct_has_the_same_fields() {
 
 #[test]
 fn each_number_is_the_same() {
-    for name in ["KEY_LIMIT: usize", "UNBOUNDED: u8", "INCLUDED: u8", "EXCLUDED: u8"] {
+    let tags = ["KEY: u8", "UNBOUNDED: u8", "INCLUDED: u8", "EXCLUDED: u8"];
+    for name in tags.iter().chain(&["KEY_LIMIT: usize"]) {
         let value = |text: &str| {
             let (_, found) = text.split_once(&format!("const {} = ", name)).expect("the constant");
             until(found, &[";"]).to_string()

@@ -3,7 +3,8 @@
 use crate::call::Call;
 use crate::judge::Judge;
 use crate::reader::{read, SIZE};
-use stranvek_sys::answers::{Answer, DONE, NOT_ACTIVE};
+use stranvek::boundary::Answer;
+use stranvek::numbers::{DONE, NOT_ACTIVE};
 
 /// Bytes beyond the published size, of no call's concern.
 const BEYOND: usize = 64;

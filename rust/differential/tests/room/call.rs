@@ -1,5 +1,5 @@
-use stranvek_sys::answers::Answer;
-use stranvek_sys::boundary;
+use stranvek::boundary;
+use stranvek::boundary::Answer;
 
 /// A call on a room, with ids, key lists and bounds as the bytes that are passed.
 #[derive(Clone, Debug)]

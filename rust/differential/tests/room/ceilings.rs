@@ -6,7 +6,7 @@ use crate::draws;
 use crate::reader::SIZE;
 use crate::totals::{totals, ACTIVE_LIMIT, BYTE_LIMIT, ENTRY_LIMIT, KEY_LIMIT, MARK_LIMIT};
 use differential::random::Random;
-use stranvek_sys::answers::{ALREADY_ACTIVE, DONE, KEY_TOO_LONG, NO_ROOM_LEFT};
+use stranvek::numbers::{ALREADY_ACTIVE, DONE, KEY_TOO_LONG, NO_ROOM_LEFT};
 
 fn id(n: usize) -> Vec<u8> {
     [&[0x5a; 14], &(n as u16).to_be_bytes()[..]].concat()
@@ -40,7 +40,7 @@ fn begun(count: usize) -> Both {
 
 #[test]
 fn the_published_size() {
-    assert_eq!(stranvek_sys::boundary::room_size(), SIZE);
+    assert_eq!(stranvek::boundary::room_size(), SIZE);
 }
 
 #[test]

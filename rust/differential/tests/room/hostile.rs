@@ -8,7 +8,8 @@ use crate::met::{calls, Met};
 use crate::reader::{read, record, SIZE};
 use crate::writer::written;
 use differential::random::Random;
-use stranvek_sys::answers::{Answer, NOT_A_ROOM};
+use stranvek::boundary::Answer;
+use stranvek::numbers::NO_STATE;
 
 /// Rooms of some active transactions and entries, by random calls.
 fn good_rooms(count: usize, seed: u64) -> Vec<Vec<u8>> {
@@ -109,7 +110,7 @@ fn rooms_cut_at_each_length() {
         let mut cut = room[..length].to_vec();
         for call in &calls {
             let answer = call.ask(&mut cut);
-            assert_eq!(answer, Answer { status: NOT_A_ROOM, value: 0 }, "{} bytes", length);
+            assert_eq!(answer, Answer { status: NO_STATE, value: 0 }, "{} bytes", length);
         }
         assert!(cut == room[..length], "{} bytes", length);
     }

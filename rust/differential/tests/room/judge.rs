@@ -6,8 +6,9 @@ use crate::totals::{self, Totals, ACTIVE_LIMIT, ENTRY_LIMIT, KEY_LIMIT};
 use bytes::Bytes;
 use slatedb_oracle::bytes_range::BytesProbe;
 use slatedb_oracle::transaction_manager::{Active, Id, ManagerProbe, State};
-use stranvek_sys::answers::{
-    Answer, ALREADY_ACTIVE, BADLY_FORMED, DONE, EMPTY_RANGE, KEY_TOO_LONG, NOT_ACTIVE, NO_ROOM_LEFT,
+use stranvek::boundary::Answer;
+use stranvek::numbers::{
+    ALREADY_ACTIVE, BADLY_FORMED, DONE, EMPTY_RANGE, KEY_TOO_LONG, NOT_ACTIVE, NO_ROOM_LEFT,
 };
 
 pub struct Judge {

@@ -4,7 +4,8 @@ use crate::both::Both;
 use crate::call::{field, id_of, list_of, Call};
 use crate::judge::Judge;
 use crate::reader::read;
-use stranvek_sys::answers::{Answer, NOT_A_ROOM};
+use stranvek::boundary::Answer;
+use stranvek::numbers::NO_STATE;
 
 /// One of each call but fresh, on an id that a room may know and one that none does.
 pub fn calls() -> Vec<Call> {
@@ -52,7 +53,7 @@ impl Met {
 fn refused(room: &[u8], call: &Call) {
     let mut after = room.to_vec();
     let answer = call.ask(&mut after);
-    let due = Answer { status: NOT_A_ROOM, value: 0 };
+    let due = Answer { status: NO_STATE, value: 0 };
     assert_eq!(answer, due, "{:02x?} on a room that records no state", call);
     assert!(after == room, "{:02x?} changed a room that it refused", call);
 }

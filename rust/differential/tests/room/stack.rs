@@ -4,7 +4,8 @@ use crate::both::Both;
 use crate::call::{field, id_of, list_of, Call};
 use crate::totals::KEY_LIMIT;
 use std::thread;
-use stranvek_sys::answers::{Answer, DONE};
+use stranvek::boundary::Answer;
+use stranvek::numbers::DONE;
 
 /// A thread's whole stack.
 const STACK: usize = 40 * 1024;
