@@ -1,7 +1,17 @@
 //! The calls as they are, number for number: each takes the room, ids, key lists and bounds as bytes and answers a status
-//! and a value. Tests and other languages' bindings use it.
+//! and a value. Tests and other languages' bindings use it; a host in Rust has [`TransactionManager`](crate::TransactionManager).
 //!
 //! No call asks anything of its arguments: any bytes may be passed as a room, an id, a list or bounds.
+//!
+//! ```
+//! use stranvek::boundary::{self, Answer};
+//!
+//! let mut room = vec![0; boundary::room_size()];
+//! assert_eq!(boundary::min_active_seq(&room), Answer { status: 7, value: 0 });
+//! assert_eq!(boundary::new(&mut room, 41), Answer { status: 0, value: 41 });
+//! assert_eq!(boundary::new_transaction(&mut room, b"no id"), Answer { status: 2, value: 0 });
+//! assert_eq!(boundary::new_transaction(&mut room, &[1; 16]), Answer { status: 0, value: 41 });
+//! ```
 //!
 //! This is the one place of unsafe code. One reason makes every call here safe: each pointer goes with the length of the
 //! slice that it came from, and that slice is lent through the call, a room that is written as `&mut`. The library reads no

@@ -28,3 +28,7 @@ pub const EXCLUDED: u8 = 0x12;
 
 /// The longest key that the library stores or lets into a range.
 pub const KEY_LIMIT: usize = 512;
+
+/// How many bytes a room takes, as a constant, for `[u8; ROOM_SIZE]`. The library says it by
+/// [`boundary::room_size`](crate::boundary::room_size), to which a test holds this number; no code here relies on it.
+pub const ROOM_SIZE: usize = 41_172;
