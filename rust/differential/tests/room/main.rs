@@ -16,6 +16,7 @@ mod writer;
 mod ceilings;
 mod edges;
 mod hostile;
+mod interface;
 mod memory;
 mod random;
 mod short;
