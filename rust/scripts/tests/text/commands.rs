@@ -1,0 +1,113 @@
+//! The commands, as they are run.
+
+use std::io::Write;
+use std::path::{Path, PathBuf};
+use std::process::{Command, Output, Stdio};
+
+const P: &[u8] = include_bytes!("../../../../scripts/p.txt");
+const P_BYTES: &[u8] = include_bytes!("../../../../crates/replay/stdin");
+const P_LINES: &str = include_str!("../../../../crates/replay/stdout");
+
+/// The replay program, which must have been made.
+fn replay() -> PathBuf {
+    let program = Path::new(env!("CARGO_MANIFEST_DIR")).join("../../target/bin/replay");
+    assert!(program.exists(), "target/bin/replay is not there: `rt check replay` makes it");
+    program
+}
+
+fn script(words: &[&str], input: &[u8]) -> Output {
+    let mut child = Command::new(env!("CARGO_BIN_EXE_script"))
+        .args(words)
+        .stdin(Stdio::piped())
+        .stdout(Stdio::piped())
+        .stderr(Stdio::piped())
+        .spawn()
+        .expect("the command starts");
+    // A usage error reads no input, so the write may fail.
+    let _ = child.stdin.take().expect("it is piped").write_all(input);
+    child.wait_with_output().expect("the command ends")
+}
+
+fn done(words: &[&str], input: &[u8]) -> Vec<u8> {
+    let output = script(words, input);
+    assert!(output.stderr.is_empty(), "{}", String::from_utf8_lossy(&output.stderr));
+    assert_eq!(output.status.code(), Some(0));
+    output.stdout
+}
+
+/// What a command says that fails and writes nothing to standard output.
+fn failed(words: &[&str], input: &[u8], status: i32) -> String {
+    let output = script(words, input);
+    assert_eq!((output.status.code(), output.stdout.len()), (Some(status), 0));
+    String::from_utf8(output.stderr).expect("text")
+}
+
+#[test]
+fn bytes_and_text() {
+    assert_eq!(done(&["bytes"], P), P_BYTES);
+    let text = done(&["text"], P_BYTES);
+    assert_eq!(done(&["bytes"], &text), P_BYTES);
+    assert_eq!(done(&["text"], b""), b"");
+    assert_eq!(done(&["text"], b"\x09\0\0\xff"), b"minimum\nbytes ff\n");
+}
+
+#[test]
+fn faults_name_the_line() {
+    let fault = "script: line 2: `begn` is no record\n";
+    assert_eq!(failed(&["bytes"], b"begin A\nbegn B\n", 1), fault);
+    assert_eq!(failed(&["show", "/bin/true"], b"begin A\nbegn B\n", 1), fault);
+}
+
+#[test]
+fn bad_arguments() {
+    let wrong: [&[&str]; 6] =
+        [&[], &["byte"], &["bytes", "x"], &["text", "x"], &["show"], &["show", "/bin/true", "x"]];
+    for words in wrong {
+        assert!(failed(words, b"", 2).starts_with("usage: script bytes"), "{:?}", words);
+    }
+}
+
+#[test]
+fn script_p_beside_its_lines() {
+    let replay = replay();
+    let shown = done(&["show", replay.to_str().expect("a name")], P);
+    let shown = String::from_utf8(shown).expect("text");
+    let text = String::from_utf8(done(&["text"], P_BYTES)).expect("text");
+    let mut compared = 0;
+    for ((row, record), line) in shown.lines().zip(text.lines()).zip(P_LINES.lines()) {
+        assert_eq!(row, format!("{:10}    {}", record, line));
+        compared += 1;
+    }
+    assert_eq!((compared, shown.lines().count()), (15, 15));
+}
+
+#[test]
+fn what_stops_a_run_beside_its_line() {
+    let replay = replay();
+    let show = ["show", replay.to_str().expect("a name")];
+    let shown = done(&show, b"minimum\nrecord 09 61\nbegin A\nbytes 0100\n");
+    let due =
+        "minimum         1 0\nrecord 09 61    2 0\nbegin A         0 0\nbytes 0100      stop 26\n";
+    assert_eq!(String::from_utf8(shown).expect("text"), due);
+    assert_eq!(done(&show, b"# nothing\n"), b"");
+    // A record too wide for the column leaves the others where they are.
+    let wide = format!("write A {}", "61".repeat(40));
+    let shown =
+        done(&show, format!("begin A\n{}\nbytes 0f{}\n", wide, "00".repeat(300_000)).as_bytes());
+    let rows: Vec<&[u8]> = shown.split(|&byte| byte == b'\n').collect();
+    assert_eq!(rows[0], b"begin A    0 0");
+    assert_eq!(rows[1], format!("{}    0 1", wide).as_bytes());
+    assert!(rows[2].ends_with(b"00    stop 81") && rows.len() == 4);
+}
+
+#[test]
+fn programs_that_do_not_fit() {
+    let due = "script: the program wrote 0 lines, and 15 are due\n";
+    assert_eq!(failed(&["show", "/bin/true"], P, 1), due);
+    assert_eq!(
+        failed(&["show", "/bin/false"], P, 1),
+        "script: /bin/false ended with exit status: 1\n"
+    );
+    let missing = failed(&["show", "/bin/no-such-program"], P, 1);
+    assert!(missing.starts_with("script: /bin/no-such-program: "), "{}", missing);
+}
