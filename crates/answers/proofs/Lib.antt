@@ -6,3 +6,6 @@ pub mod InsideLaws
 pub mod SightLaws
 pub mod SeenLaws
 pub mod FormLaws
+pub mod FoundLaws
+pub mod LeftLaws
+pub mod AdvanceLaws

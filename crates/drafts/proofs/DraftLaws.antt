@@ -4,7 +4,7 @@ use mathlib.Core.Path.{_≡_, refl, sym, ap, _∙_}
 use mathlib.Core.List.{List, [], _++_, append-nil}
 use native.Mathlib.Omega.{arith}
 use borrow.Rule.Slice.PartMut.{putMid, same-len-mid}
-use lib.ListN.{length, take, drop, length-append, length-drop, drop-of-length-le}
+use lib.ListN.{length, take, drop, length-append, length-drop, drop-of-length-le, replicate, length-replicate}
 use lib.Seq.{paste, take-all, take-append-add, drop-at, length-take-le}
 use Rattle.machine.specs.State.{Bytes, base}
 use Rattle.machine.specs.Sets.{insertAll}
@@ -16,7 +16,14 @@ use Rattle.layout.proofs.RowLaws.{row-inside, row-slice}
 use Rattle.sets.specs.declared.Inserted.{Inserted}
 use Rattle.sets.specs.Sets.{Key, AllStand, Ready, InsertedIs}
 use Rattle.drafts.specs.declared.Drafted.{Drafted}
-use Rattle.drafts.specs.Drafts.{Begun, SetStands, DraftedIs}
+use Rattle.drafts.specs.Drafts.{setSize, Begun, SetStands, DraftedIs}
+
+-- a draft as it begins
+abbrev pub zeros : List ℕ
+zeros = replicate setSize 0
+
+pub zeros-long : length zeros ≡ setSize
+zeros-long = length-replicate {A = ℕ} setSize 0
 
 set-bytes : (ks : List Bytes) → setForm (base .key) .write ks ≡ number 2 .write (length ks) ++ writeRun Key ks
 unfolding setForm listForm via bind run

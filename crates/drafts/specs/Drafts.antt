@@ -1,5 +1,5 @@
 -- The record of a set in a draft, and what it is when the keys of a list are added.
-use Prim.Native.Nat.{ℕ, _+_, _≤_, _<_}
+use Prim.Native.Nat.{ℕ, _+_, _*_, _≤_, _<_}
 use mathlib.Core.Path.{_≡_}
 use mathlib.Core.List.{List}
 use mathlib.Core.Logic.{_⊎_}
@@ -12,6 +12,10 @@ use Rattle.layout.specs.Keys.{setForm}
 use Rattle.layout.specs.Places.{Row}
 use Rattle.sets.specs.Sets.{Key, Ready}
 use Rattle.drafts.specs.declared.Drafted.{Drafted}
+
+-- what the record of the largest set takes: its count, and two bytes for each mark beside the key bytes
+abbrev pub setSize : ℕ
+setSize = 2 + 2 * base .marks + base .bytes
 
 -- the keys stand behind the first two bytes
 pub record Begun (d : Bytes) (used n : ℕ) (list : Bytes) (marks bytes : ℕ) : Type 0 where

@@ -41,7 +41,7 @@ use Rattle.tracks.specs.declared.Which.{Which}
 use Rattle.tracks.specs.declared.Which.the-variants.{Writes, Reads}
 use Rattle.tracks.specs.Tracks.{tracking, setOf, addKeys, beforeSet, SetAt, Growable, SetGrown, NotGrown, GrownIs}
 use Rattle.answers.proofs.SeenLaws.{seen-load, seen-held}
-use Rattle.tracks.proofs.SeenLaws.{within, space-left, not-found, here, found, place, laid, changed}
+use Rattle.answers.proofs.FoundLaws.{within, space-left, not-found, here, found, place, laid, changed}
 use Rattle.tracks.proofs.SetLaws.{SetIn, set-in, afterSet, set-split, set-split-new, same-id, more-marks, more-bytes, set-counts}
 
 -- ---- what the machine answers

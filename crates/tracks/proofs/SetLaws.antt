@@ -11,7 +11,7 @@ use Rattle.codec.specs.Formats.{number}
 use Rattle.codec.proofs.NumberLaws.{length-number}
 use Rattle.layout.specs.Keys.{setForm, rangesForm}
 use Rattle.layout.specs.Records.{txnForm}
-use Rattle.layout.specs.Places.{Part, Here, Ends}
+use Rattle.layout.specs.Places.{Part, Ends}
 use Rattle.layout.proofs.PartLaws.{part-end}
 use Rattle.layout.proofs.OpenLaws.{OpenTxn, open-txn}
 use Rattle.answers.proofs.InsideLaws.{txn-bytes}
@@ -20,9 +20,6 @@ use Rattle.tracks.specs.declared.Which.the-variants.{Writes, Reads}
 use Rattle.tracks.specs.Tracks.{setOf, addKeys, beforeSet, SetAt}
 
 -- ---- where it stands
-
-pub writes-here : {s : Bytes} {txn : ℕ} → Here (txnForm (base .key)) s txn → Here (setForm (base .key)) s (txn + 24)
-writes-here h = let o = open-txn (base .key) (h .part) in record { val = h .val .writes; end = o .writes-end; part = o .writes }
 
 head-length : (t : Txn) → length (t .id) ≡ 16 → length (beforeSet Writes t) ≡ 24
 head-length t e = length-append (t .id) (number 8 .write (t .start)) ∙ rw (e, length-number 8 (t .start))

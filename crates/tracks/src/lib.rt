@@ -1,4 +1,4 @@
-// Tracks: the keys and ranges that an active transaction reads and writes, put into its record.
+// Tracks of keys: those that an active transaction reads and writes, put into its record.
 ghost use Rattle.machine.specs.State.{base};
 ghost use Rattle.machine.specs.Calls.{on, trackWrites, trackReads};
 ghost use Rattle.layout.specs.Records.{txnForm};
@@ -24,8 +24,6 @@ use room::View;
 use room::ceilings::BYTE_LIMIT;
 use room::ceilings::MARK_LIMIT;
 use room::ceilings::SET_SIZE;
-
-pub mod range;
 
 // How many keys are new in a set, if they fit.
 enum Grown {

@@ -23,95 +23,72 @@ was-copied c = copied (c .before .before .before .before .before .before .before
 drafted : (c : tie.After-n) → DraftedIs (c .before .before .before .before .before .before .copy-in .last .0) (c .before .before .before .before .before .before .before .before .before .before .before .before .set-past .result - (c .before .before .before .before .before .before .before .before .before .before .before .before .before .before .before .before .args .at + 2)) (c .before .before .before .before .before .before .before .before .before .before .read-two .result) (now (c .before .before .before .before .before .before .before .before .before .before .before .before .before .before .before .before .args .list)) (c .before .before .before .before .before .before .before .before .before .before .before .before .before .before .before .before .args .marks) (c .before .before .before .before .before .before .before .before .before .before .before .before .before .before .before .before .args .bytes) (c .before .before .before .draft-keys .last .0) (Drafted.Set (c .n .given .0 .0) (c .n .given .0 .1 .0))
 drafted c = rw (c .n .given .1) at (c .before .before .before .draft-keys .ensures)
 
--- src/lib.rt:35:16
 add-from : tie.Need-add-from
 add-from c = search needs
 
--- src/lib.rt:36:9
 set-past-requires : tie.Need-set-past-requires
 set-past-requires c κs = search needs
 
--- src/lib.rt:37:9
 read-two-requires : tie.Need-read-two-requires
 read-two-requires c κs = head-inside (c .before .before .before .before .before .pre)
 
--- src/lib.rt:38:13
 slice-aggregate-copy-in : tie.Need-slice-aggregate-copy-in
 slice-aggregate-copy-in c = search needs
 
--- src/lib.rt:38:32
 sub-copy-in : tie.Need-sub-copy-in
 sub-copy-in c = omega (arith, set-inside (c .before .before .before .before .before .before .before .pre) (c .before .before .before .set-past .ensures))
 
--- src/lib.rt:38:32
 part-copy-in-start : tie.Need-part-copy-in-start
 part-copy-in-start c = omega (arith, set-inside (c .before .before .before .before .before .before .before .before .pre) (c .before .before .before .before .set-past .ensures))
 
--- src/lib.rt:38:32
 part-copy-in-end : tie.Need-part-copy-in-end
 part-copy-in-end c = omega (arith, set-inside (c .before .before .before .before .before .before .before .before .pre) (c .before .before .before .before .set-past .ensures))
 
--- src/lib.rt:38:5
 copy-in-requires : tie.Need-copy-in-requires
 copy-in-requires c κs = fits-draft (c .before .before .before .before .before .before .before .before .before .pre) (c .before .before .before .before .before .set-past .ensures)
 
--- src/lib.rt:39:22
 slice-aggregate-draft-keys : tie.Need-slice-aggregate-draft-keys
 slice-aggregate-draft-keys c = search needs
 
--- src/lib.rt:39:34
 sub-draft-keys : tie.Need-sub-draft-keys
 sub-draft-keys c = omega (arith, set-inside (c .before .before .before .before .before .before .before .before .before .before .before .before .pre) (c .before .before .before .before .before .before .before .before .set-past .ensures))
 
--- src/lib.rt:39:11
 draft-keys-requires : tie.Need-draft-keys-requires
 draft-keys-requires c κs = begun (c .before .before .before .before .before .before .before .before .before .before .before .before .pre) (c .before .before .before .before .before .before .before .before .set-past .ensures) (c .before .before .before .before .before .before .read-two .ensures) (was-copied (c .before .before))
 
--- src/lib.rt:40:29
 enum-known-n : tie.Need-enum-known-n
 enum-known-n c = search needs
 
--- src/lib.rt:41:36
 sub-splice : tie.Need-sub-splice
 sub-splice c = omega (arith, set-inside (c .before .before .before .before .before .before .before .before .before .before .before .before .before .before .before .before .before .before .pre) (c .before .before .before .before .before .before .before .before .before .before .before .before .before .before .set-past .ensures))
 
--- src/lib.rt:41:46
 sub-splice-2 : tie.Need-sub-splice-2
 sub-splice-2 c = search needs
 
--- src/lib.rt:41:46
 part-splice-start : tie.Need-part-splice-start
 part-splice-start c = search needs
 
--- src/lib.rt:41:46
 part-splice-end : tie.Need-part-splice-end
 part-splice-end c = omega (arith, in-draft (c .before .before .before .before .before .before .before .before .before .before .before .before .before .before .before .before .before .before .before .pre) (c .before .before .before .before .before .before .before .before .before .before .before .before .before .before .before .set-past .ensures) (c .before .before .before .before .before .before .before .before .before .before .before .before .before .read-two .ensures) (was-copied (c .before .before .before .before .before .before .before .before .before)) (drafted (c .before .before .before)))
 
--- src/lib.rt:41:13
 splice-requires : tie.Need-splice-requires
 splice-requires c κs = can-put (c .before .before .before .before .before .before .before .before .before .before .before .before .before .before .before .before .before .before .before .before .pre) (c .before .before .before .before .before .before .before .before .before .before .before .before .before .before .before .before .set-past .ensures) (c .before .before .before .before .before .before .before .before .before .before .before .before .before .before .read-two .ensures) (was-copied (c .before .before .before .before .before .before .before .before .before .before)) (drafted (c .before .before .before .before))
 
--- src/lib.rt:42:31
 sub-t30 : tie.Need-sub-t30
 sub-t30 c = more-keys (c .before .before .before .before .before .before .before .before .before .before .before .before .before .before .before .before .before .before .before .before .before .before .before .pre) (c .before .before .before .before .before .before .before .before .before .before .before .before .before .before .before .before .before .before .before .set-past .ensures) (c .before .before .before .before .before .before .before .before .before .before .before .before .before .before .before .before .before .read-two .ensures) (was-copied (c .before .before .before .before .before .before .before .before .before .before .before .before .before)) (drafted (c .before .before .before .before .before .before .before))
 
--- src/lib.rt:42:13
 same-length : tie.Need-same-length
 same-length c = search needs
 
--- src/lib.rt:42:13
 returns : tie.Need-returns
 returns c = grown (c .before .before .before .before .before .before .before .before .before .before .before .before .before .before .before .before .before .before .before .before .before .before .before .pre) (c .before .before .before .before .before .before .before .before .before .before .before .before .before .before .before .before .before .before .before .set-past .ensures) (c .before .before .before .before .before .before .before .before .before .before .before .before .before .before .before .before .before .read-two .ensures) (was-copied (c .before .before .before .before .before .before .before .before .before .before .before .before .before)) (drafted (c .before .before .before .before .before .before .before)) (c .before .before .splice .ensures)
 
--- src/lib.rt:44:26
 enum-told : tie.Need-enum-told
 enum-told c = search needs
 
--- src/lib.rt:44:26
 same-length-2 : tie.Need-same-length-2
 same-length-2 c = search needs
 
--- src/lib.rt:44:26
 returns-2 : tie.Need-returns-2
 returns-2 c = not-grown (c .before .before .before .before .before .before .before .before .before .before .before .before .before .before .before .before .pre) (c .before .before .before .before .before .before .before .before .before .before .before .before .set-past .ensures) (c .before .before .before .before .before .before .before .before .before .before .read-two .ensures) (was-copied (c .before .before .before .before .before .before)) (rw (c .enum-told .given .1) at (c .before .before .before .draft-keys .ensures))
 

@@ -1,4 +1,5 @@
-use Rattle.tracks.proofs.SetLaws.{writes-here, writes-at, reads-at}
+use Rattle.answers.proofs.FoundLaws.{writes-here}
+use Rattle.tracks.proofs.SetLaws.{writes-at, reads-at}
 use borrow.Author.Needs.{needs}
 use Rattle.tracks.proofs.set_at.Statement.{statement}
 use Rattle.tracks.proofs.set_at.Tie as tie
@@ -6,31 +7,24 @@ use Rattle.tracks.proofs.set_at.Reads as reads
 use Rattle.tracks.proofs.set_at.Lts as lts
 use Rattle.places.proofs.skips.set_past.Reads as set-past-reads
 
--- src/lib.rt:80:26
 enum-told : tie.Need-enum-told
 enum-told c = search needs
 
--- src/lib.rt:80:26
 add-result : tie.Need-add-result
 add-result c = search needs
 
--- src/lib.rt:81:40
 enum-told-2 : tie.Need-enum-told-2
 enum-told-2 c = search needs
 
--- src/lib.rt:81:40
 add-set-past : tie.Need-add-set-past
 add-set-past c = search needs
 
--- src/lib.rt:81:25
 set-past-requires : tie.Need-set-past-requires
 set-past-requires c κs = writes-here (c .before .before .before .pre)
 
--- src/lib.rt:75:1
 returns : tie.Need-returns
 returns c = rw (c .enum-told .given .1) (writes-at _ _)
 
--- src/lib.rt:75:1
 returns-2 : tie.Need-returns-2
 returns-2 c = rw (c .before .enum-told2 .given .1) (reads-at (c .set-past .ensures))
 

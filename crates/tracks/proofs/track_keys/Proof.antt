@@ -9,7 +9,7 @@ use Rattle.fields.specs.Forms.{formOf}
 use Rattle.places.specs.declared.finds.Place.{Place}
 use Rattle.places.specs.Finds.{Found}
 use Rattle.answers.proofs.SeenLaws.{active-rows}
-use Rattle.tracks.proofs.SeenLaws.{within, txn-here}
+use Rattle.answers.proofs.FoundLaws.{within, txn-here}
 use Rattle.tracks.proofs.KeysLaws.{keys-refused, keys-too-long, keys-absent, growable, keys-full, keys-done}
 use borrow.Author.Needs.{needs}
 use Rattle.tracks.proofs.track_keys.Statement.{statement}
@@ -31,91 +31,69 @@ good c = sym (c .enum-told .given .1) ∙ c .before .before .check-keys .ensures
 found : (c : tie.After-at) → Found (now (c .before .before .before .before .before .before .before .before .before .before .before .args .room)) (c .before .before .before .before .before .before .before .before .before .before .before .args .v .middle) (c .before .before .before .before .before .before .before .before .before .before .before .args .v .active) (now (c .before .before .before .before .before .before .before .before .before .before .before .args .id)) (Place.Here (c .at .given .0 .0) (c .at .given .0 .1 .0))
 found c = rw (c .at .given .1) at (c .before .before .find-txn .ensures)
 
--- src/lib.rt:95:9
 returns : tie.Need-returns
 returns c = keys-refused (c .before .before .before .before .pre) (c .before .before .before .before .args .which) (now (c .before .before .before .before .args .id)) (now (c .before .before .before .before .args .list)) (inl (c .if1 .taken))
 
--- src/lib.rt:97:11
 check-keys-requires : tie.Need-check-keys-requires
 check-keys-requires c κs = search needs
 
--- src/lib.rt:98:38
 enum-told : tie.Need-enum-told
 enum-told c = search needs
 
--- src/lib.rt:98:29
 find-txn-requires : tie.Need-find-txn-requires
 find-txn-requires c κs = active-rows (c .before .before .before .before .before .before .before .before .pre)
 
--- src/lib.rt:99:27
 enum-known-at : tie.Need-enum-known-at
 enum-known-at c = search needs
 
--- src/lib.rt:100:21
 set-at-requires : tie.Need-set-at-requires
 set-at-requires c κs = txn-here (c .before .before .before .before .before .before .before .before .before .before .before .before .before .pre) (found (c .before .before))
 
--- src/lib.rt:101:55
 sub-grow-set : tie.Need-sub-grow-set
 sub-grow-set c = omega (arith, within (c .before .before .before .before .before .before .before .before .before .before .before .before .before .before .before .pre))
 
--- src/lib.rt:101:75
 sub-grow-set-2 : tie.Need-sub-grow-set-2
 sub-grow-set-2 c = omega (arith, within (c .before .before .before .before .before .before .before .before .before .before .before .before .before .before .before .pre))
 
--- src/lib.rt:101:23
 grow-set-requires : tie.Need-grow-set-requires
 grow-set-requires c κs = growable (c .before .before .before .before .before .before .before .before .before .before .before .before .before .before .before .pre) (c .before .before .before .before .before .before .before .before .before .before .before .before .before .before .before .args .which) (now (c .before .before .before .before .before .before .before .before .before .before .before .before .before .before .before .args .id)) (now (c .before .before .before .before .before .before .before .before .before .before .before .before .before .before .before .args .list)) (is-id (c .before .before .before .before .before .before .before .before .before .before .before)) (good (c .before .before .before .before .before .before .before .before)) (found (c .before .before .before .before)) (c .before .set-at .ensures)
 
--- src/lib.rt:102:32
 enum-known-n : tie.Need-enum-known-n
 enum-known-n c = search needs
 
--- src/lib.rt:103:25
 same-length : tie.Need-same-length
 same-length c = search needs
 
--- src/lib.rt:103:25
 returns-2 : tie.Need-returns-2
 returns-2 c = keys-done (c .before .before .before .before .before .before .before .before .before .before .before .before .before .before .before .before .before .before .before .before .before .pre) (c .before .before .before .before .before .before .before .before .before .before .before .before .before .before .before .before .before .before .before .before .before .args .which) (now (c .before .before .before .before .before .before .before .before .before .before .before .before .before .before .before .before .before .before .before .before .before .args .id)) (now (c .before .before .before .before .before .before .before .before .before .before .before .before .before .before .before .before .before .before .before .before .before .args .list)) (is-id (c .before .before .before .before .before .before .before .before .before .before .before .before .before .before .before .before .before)) (good (c .before .before .before .before .before .before .before .before .before .before .before .before .before .before)) (found (c .before .before .before .before .before .before .before .before .before .before)) (c .before .before .before .before .before .before .before .set-at .ensures) (rw (c .before .n .given .1) at (c .before .before .before .before .before .grow-set .ensures))
 
--- src/lib.rt:108:36
 enum-told-2 : tie.Need-enum-told-2
 enum-told-2 c = search needs
 
--- src/lib.rt:108:36
 same-length-2 : tie.Need-same-length-2
 same-length-2 c = search needs
 
--- src/lib.rt:108:36
 returns-3 : tie.Need-returns-3
 returns-3 c = keys-full (c .before .before .before .before .before .before .before .before .before .before .before .before .before .before .before .before .before .before .before .before .pre) (c .before .before .before .before .before .before .before .before .before .before .before .before .before .before .before .before .before .before .before .before .args .which) (now (c .before .before .before .before .before .before .before .before .before .before .before .before .before .before .before .before .before .before .before .before .args .id)) (now (c .before .before .before .before .before .before .before .before .before .before .before .before .before .before .before .before .before .before .before .before .args .list)) (is-id (c .before .before .before .before .before .before .before .before .before .before .before .before .before .before .before .before)) (good (c .before .before .before .before .before .before .before .before .before .before .before .before .before)) (found (c .before .before .before .before .before .before .before .before .before)) (c .before .before .before .before .before .before .set-at .ensures) (rw (c .enum-told2 .given .1) at (c .before .before .before .before .grow-set .ensures))
 
--- src/lib.rt:111:33
 enum-told-3 : tie.Need-enum-told-3
 enum-told-3 c = search needs
 
--- src/lib.rt:111:33
 same-length-3 : tie.Need-same-length-3
 same-length-3 c = search needs
 
--- src/lib.rt:111:33
 returns-4 : tie.Need-returns-4
 returns-4 c = keys-absent (c .before .before .before .before .before .before .before .before .before .before .before .pre) (c .before .before .before .before .before .before .before .before .before .before .before .args .which) (now (c .before .before .before .before .before .before .before .before .before .before .before .args .id)) (now (c .before .before .before .before .before .before .before .before .before .before .before .args .list)) (is-id (c .before .before .before .before .before .before .before)) (good (c .before .before .before .before)) (rw (c .enum-told3 .given .1) at (c .before .before .find-txn .ensures))
 
--- src/lib.rt:113:23
 enum-told-4 : tie.Need-enum-told-4
 enum-told-4 c = search needs
 
--- src/lib.rt:113:23
 returns-5 : tie.Need-returns-5
 returns-5 c = keys-too-long (c .before .before .before .before .before .before .before .pre) (c .before .before .before .before .before .before .before .args .which) (now (c .before .before .before .before .before .before .before .args .id)) (now (c .before .before .before .before .before .before .before .args .list)) (is-id (c .before .before .before)) (sym (c .enum-told4 .given .1) ∙ c .before .before .check-keys .ensures)
 
--- src/lib.rt:114:28
 enum-told-5 : tie.Need-enum-told-5
 enum-told-5 c = search needs
 
--- src/lib.rt:114:28
 returns-6 : tie.Need-returns-6
 returns-6 c = keys-refused (c .before .before .before .before .before .before .before .pre) (c .before .before .before .before .before .before .before .args .which) (now (c .before .before .before .before .before .before .before .args .id)) (now (c .before .before .before .before .before .before .before .args .list)) (inr (sym (c .enum-told5 .given .1) ∙ c .before .before .check-keys .ensures))
 

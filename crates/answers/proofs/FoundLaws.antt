@@ -1,0 +1,80 @@
+-- What a view says of the totals, and of the transaction that an id was looked for.
+use Prim.Native.Nat.{ℕ, _+_, _-_, _*_, _≤_}
+use native.Mathlib.Nat.{le-refl}
+use mathlib.Core.Path.{_≡_, refl, sym, ap, _∙_}
+use mathlib.Core.List.{_∷_, _++_}
+use mathlib.Core.Option.{none, some}
+use native.Mathlib.Omega.{arith}
+use lib.ListN.{length}
+use Rattle.machine.specs.State.{Bytes, State, Txn, Ceilings, base, marks, keyBytes, Fits}
+use Rattle.machine.specs.Calls.{holding}
+use Rattle.machine.specs.Sets.{put, find}
+use Rattle.machine.specs.Serve.{state}
+use Rattle.machine.proofs.ListLaws.{all-map}
+use Rattle.machine.proofs.ActiveLaws.{put-known-length}
+use Rattle.layout.specs.Keys.{setForm}
+use Rattle.layout.specs.Records.{txnForm}
+use Rattle.layout.specs.States.{roomSize}
+use Rattle.layout.specs.Rooms.{load}
+use Rattle.layout.specs.Places.{Row, Rows, Here}
+use Rattle.layout.proofs.OpenLaws.{open-txn}
+use Rattle.layout.proofs.RowLaws.{row-end}
+use Rattle.layout.proofs.SizeLaws.{fits-size}
+use Rattle.layout.proofs.LoadLaws.{Held, Changed}
+use Rattle.places.specs.declared.finds.Place.{Place}
+use Rattle.places.specs.Finds.{Found, HereIn, BeforeIn}
+use Rattle.places.proofs.FindLaws.{here-id, here-finds, here-puts, before-finds}
+use Rattle.edits.proofs.LaidLaws.{Laid, entriesOf, activeOf, laid-end}
+use Rattle.answers.proofs.SightLaws.{sight-used}
+use Rattle.answers.proofs.SeenLaws.{seen-held, seen-laid, found-in}
+use Rattle.answers.proofs.ChangeLaws.{relaid}
+use Rattle.room.specs.declared.View.{View}
+use Rattle.room.specs.Views.{Seen}
+
+-- where the writes of a transaction stand
+pub writes-here : {s : Bytes} {txn : ℕ} → Here (txnForm (base .key)) s txn → Here (setForm (base .key)) s (txn + 24)
+writes-here h = let o = open-txn (base .key) (h .part) in record { val = h .val .writes; end = o .writes-end; part = o .writes }
+
+module _ {s : Bytes} {v : View} (n : Seen s v) where
+  pub within : (v .marks ≤ base .marks) × (v .bytes ≤ base .bytes)
+  within = (omega (arith, n .marks, seen-held n .kept .ceilings .marks), omega (arith, n .bytes, seen-held n .kept .ceilings .bytes))
+
+  -- what the totals leave finds room: a mark takes six bytes at most beside its key bytes
+  pub space-left : v .used + 6 * (base .marks - v .marks) + (base .bytes - v .bytes) ≤ roomSize base
+  space-left =
+      let L : Ceilings = record { active = base .active; entries = base .entries; marks = marks (n .state); bytes = keyBytes (n .state); key = base .key } in
+      let f : Fits L (n .state) = record { active = seen-held n .kept .ceilings .active; entries = seen-held n .kept .ceilings .entries; marks = le-refl _; bytes = le-refl _ } in
+      let a = all-map _ (λ t. length (t .id) ≡ 16) (λ t o. o .id-length) (n .state .active) (seen-held n .kept .txns) in
+      omega (arith, fits-size L (base .key) (n .state) f a, sight-used s (n .state) (v .used) (n .whole) (n .inside) (n .size), n .marks, n .bytes, seen-held n .kept .ceilings .marks, seen-held n .kept .ceilings .bytes)
+
+  module _ {id : Bytes} {p : ℕ} (f : Found s (v .middle) (v .active) id (Place.Before p)) where
+    pub not-here : BeforeIn s (v .middle) id (n .state .active) (v .used) p
+    not-here = found-in n id (Place.Before p) f
+
+    pub not-found : find id (n .state .active) ≡ none
+    not-found = before-finds not-here (seen-held n .kept .distinct)
+
+  module _ {id : Bytes} {p q : ℕ} (f : Found s (v .middle) (v .active) id (Place.Here p q)) where
+    pub here : HereIn s (v .middle) id (n .state .active) (v .used) p q
+    here = found-in n id (Place.Here p q) f
+
+    pub txn-here : Here (txnForm (base .key)) s p
+    txn-here = record { val = here .one; end = q; part = here .part }
+
+    pub found : find id (n .state .active) ≡ some (here .one)
+    found = here-finds here
+
+    pub place : p ≡ 20 + (length (entriesOf (n .state .entries)) + length (activeOf (here .front)))
+    place = row-end (txnForm (base .key)) s (v .middle) (here .front) p (here .before) ∙ omega (arith, n .middle)
+
+    pub laid : Laid s s (v .used) (n .state .last) (length (n .state .entries)) (length (n .state .active)) (entriesOf (n .state .entries)) (activeOf (here .front ++ (here .one ∷ here .back)))
+    laid = relaid refl refl refl refl refl (ap activeOf (here .whole)) (seen-laid n)
+
+    -- another in the place of the one that was found
+    pub changed : {s' : Bytes} {used' : ℕ} (t : Txn) → t .id ≡ here .one .id
+        → Laid s s' used' (n .state .last) (length (n .state .entries)) (length (n .state .active)) (entriesOf (n .state .entries)) (activeOf (here .front ++ (t ∷ here .back)))
+        → Changed s s' (state (n .state .last) (put t (n .state .active)) (n .state .entries))
+    changed t i l =
+        let st : State = state (n .state .last) (put t (n .state .active)) (n .state .entries) in
+        let e : find (t .id) (n .state .active) ≡ some (here .one) = ap (λ (x : Bytes). find x (n .state .active)) (i ∙ sym (here-id here)) ∙ found in
+        laid-end st (relaid refl refl refl (sym (put-known-length t (n .state .active) (here .one) e (seen-held n .kept .distinct))) refl (sym (ap activeOf (here-puts here t i))) l) (seen-held n .last)

@@ -1,0 +1,2 @@
+pub mod LeaveLaws
+pub mod CommitLaws

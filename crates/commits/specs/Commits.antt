@@ -1,0 +1,29 @@
+-- What an entry of a transaction's writes takes and leaves of a room's bytes, within a commit.
+use Prim.Native.Nat.{ℕ, _-_, _≤_}
+use mathlib.Core.List.{List, [], _++_}
+use lib.ListN.{length}
+use Rattle.machine.specs.State.{Txn, base}
+use Rattle.codec.specs.Formats.{number}
+use Rattle.moves.specs.Splices.{Spliced}
+use Rattle.layout.specs.Keys.{setForm}
+use Rattle.layout.specs.Records.{txnForm}
+use Rattle.layout.specs.Places.{Part}
+use Rattle.drafts.specs.Drafts.{setSize}
+
+-- the record of a transaction stands from at up to end, behind `middle` and within the used bytes; a draft can hold its writes
+pub record Leaving (s : List ℕ) (used middle at end : ℕ) : Type 0 where
+  pub one : Txn
+  pub part : Part (txnForm (base .key)) s at one end
+  pub after : middle ≤ at
+  pub within : end ≤ used
+  pub inside : used ≤ length s
+  pub short : length (setForm (base .key) .write (one .writes)) ≤ setSize
+
+-- "the transaction leaves; its write set becomes the last entry"
+pub record EnteredFor (s : List ℕ) (used middle at end seq : ℕ) (t : Txn) (s' : List ℕ) : Type 0 where
+  pub rest : List ℕ
+  pub leaves : Spliced s used at (end - at) [] rest
+  pub enters : Spliced rest (used - (end - at)) middle 0 (number 8 .write seq ++ setForm (base .key) .write (t .writes)) s'
+
+pub record Entered (s : List ℕ) (used middle at end seq : ℕ) (s' : List ℕ) : Type 0 where
+  pub is : (t : Txn) → Part (txnForm (base .key)) s at t end → EnteredFor s used middle at end seq t s'

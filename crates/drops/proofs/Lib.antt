@@ -1,0 +1,4 @@
+pub mod RecycleLaws
+pub mod StandLaws
+pub mod PrunableLaws
+pub mod DropLaws

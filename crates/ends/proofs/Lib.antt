@@ -1,7 +1,0 @@
-pub mod RecycleLaws
-pub mod StandLaws
-pub mod SeenLaws
-pub mod DropLaws
-pub mod LeaveLaws
-pub mod CommitLaws
-pub mod BatchLaws

@@ -1,0 +1,4 @@
+pub mod BoundsLaws
+pub mod AppendLaws
+pub mod JudgeLaws
+pub mod RangeLaws
