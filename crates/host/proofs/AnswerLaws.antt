@@ -8,13 +8,14 @@ use mir.Syntax.{w8}
 use mir.Val.{toZ, ofZ}
 use Rattle.keys.specs.Order.{sign}
 use Rattle.kinds.proofs.Ties.{kept-sign}
-use Rattle.host.specs.declared.answers.Compared.{Compared}
+use Rattle.boundary.specs.declared.Compared.{Compared}
 use Rattle.kinds.specs.declared.kind.Kind.{Kind}
 use Rattle.made.specs.declared.Making.{Making}
 use Rattle.made.specs.declared.Making.the-variants.{Done, TooLong, Empty}
 use Rattle.made.specs.Making.{isDone, status}
-use Rattle.host.specs.declared.answers.NewRange.{NewRange}
-use Rattle.host.specs.Boundary.{kindNumber, compared, newRange}
+use Rattle.boundary.specs.declared.NewRange.{NewRange}
+use Rattle.boundary.specs.Boundary.{kindNumber}
+use Rattle.host.specs.Answers.{compared, newRange}
 
 abbrev answer : ℤ → Compared
 answer z = record { status = 0; order = z }

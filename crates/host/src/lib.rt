@@ -6,24 +6,23 @@ ghost use Rattle.kinds.specs.Bounds.{startOrder, endOrder};
 ghost use Rattle.bounds.specs.Ranges.{rangeOrder, notEmpty, holds, touches, intersectOf, unionOf, isPoint};
 ghost use Rattle.ranges.specs.Prefixes.{prefixRange, subrangeOf};
 ghost use Rattle.ranges.specs.Making.{newOf, madeIncrement, madeRange};
-ghost use Rattle.host.specs.Boundary.{kindAt, boundAt, rangeAt, compared, told, paired, newRange, madeKey, madeKeys};
-use answers::Compared;
-use answers::MadeKey;
-use answers::MadeKeys;
-use answers::NewRange;
-use answers::Pair;
-use answers::Told;
-use answers::UNBOUNDED;
-use answers::key_of;
-use answers::keys_of;
-use answers::kind_at;
-use answers::number_of;
-use answers::pair_of;
-use answers::range_at;
-use answers::status_of;
+ghost use Rattle.boundary.specs.Boundary.{kindAt, boundAt, rangeAt, paired, madeKeys};
+ghost use Rattle.host.specs.Answers.{compared, told, newRange, madeKey};
+use boundary::Compared;
+use boundary::MadeKey;
+use boundary::MadeKeys;
+use boundary::NewRange;
+use boundary::Pair;
+use boundary::Told;
+use boundary::UNBOUNDED;
+use boundary::key_of;
+use boundary::keys_of;
+use boundary::kind_at;
+use boundary::number_of;
+use boundary::pair_of;
+use boundary::range_at;
+use boundary::status_of;
 use ranges::bytes_range::BytesRange;
-
-mod answers;
 
 #[no_mangle]
 pub extern "C" fn stranvek_compare(a: &[u8], b: &[u8]) -> Compared

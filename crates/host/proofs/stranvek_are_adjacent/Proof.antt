@@ -2,27 +2,23 @@ use borrow.Author.Needs.{needs}
 use Rattle.bounds.specs.Ranges.{rangeOf, touches}
 use mathlib.Core.Path.{sym, ap, _∙_}
 use denote.Ref.{now}
-use Rattle.host.specs.Boundary.{told}
+use Rattle.host.specs.Answers.{told}
 use Rattle.host.proofs.stranvek_are_adjacent.Statement.{statement}
 use Rattle.host.proofs.stranvek_are_adjacent.Tie as tie
 use Rattle.host.proofs.stranvek_are_adjacent.Reads as reads
 use Rattle.host.proofs.stranvek_are_adjacent.Lts as lts
 use Rattle.bounds.proofs.comparable_range.ComparableRange.are_adjacent.Reads as are-adjacent-reads
-use Rattle.host.proofs.answers.range_at.Reads as range-at-reads
+use Rattle.boundary.proofs.range_at.Reads as range-at-reads
 
--- src/lib.rt:293:9
 range-at-requires : tie.Need-range-at-requires
 range-at-requires c κs = search needs
 
--- src/lib.rt:294:9
 range-at-requires-2 : tie.Need-range-at-requires-2
 range-at-requires-2 c κs = search needs
 
--- src/lib.rt:297:16
 are-adjacent-requires : tie.Need-are-adjacent-requires
 are-adjacent-requires c κs = search needs
 
--- src/lib.rt:280:1
 returns : tie.Need-returns
 returns c =
     let x = c .before .before .before .before .before .before .before .args in

@@ -2,23 +2,20 @@ use borrow.Author.Needs.{needs}
 use Rattle.bounds.specs.Ranges.{rangeOf, isPoint}
 use mathlib.Core.Path.{sym, ap, _∙_}
 use denote.Ref.{now}
-use Rattle.host.specs.Boundary.{told}
+use Rattle.host.specs.Answers.{told}
 use Rattle.host.proofs.stranvek_as_point.Statement.{statement}
 use Rattle.host.proofs.stranvek_as_point.Tie as tie
 use Rattle.host.proofs.stranvek_as_point.Reads as reads
 use Rattle.host.proofs.stranvek_as_point.Lts as lts
-use Rattle.host.proofs.answers.range_at.Reads as range-at-reads
+use Rattle.boundary.proofs.range_at.Reads as range-at-reads
 use Rattle.ranges.proofs.bytes_range.BytesRange.as_point.Reads as as-point-reads
 
--- src/lib.rt:355:16
 range-at-requires : tie.Need-range-at-requires
 range-at-requires c κs = search needs
 
--- src/lib.rt:359:16
 as-point-requires : tie.Need-as-point-requires
 as-point-requires c κs = search needs
 
--- src/lib.rt:345:1
 returns : tie.Need-returns
 returns c =
     let x = c .before .before .before .before .args in

@@ -9,11 +9,9 @@ use Rattle.host.proofs.stranvek_compare.Reads as reads
 use Rattle.host.proofs.stranvek_compare.Lts as lts
 use Rattle.keys.proofs.compare.Reads as compare-reads
 
--- src/lib.rt:170:16
 compare-requires : tie.Need-compare-requires
 compare-requires c κs = search needs
 
--- src/lib.rt:164:1
 returns : tie.Need-returns
 returns c =
     let x = c .before .before .before .args in

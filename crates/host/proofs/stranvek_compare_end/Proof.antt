@@ -1,7 +1,7 @@
 use borrow.Author.Needs.{needs}
 use Rattle.keys.specs.Order.{sign}
 use Rattle.kinds.specs.Bounds.{bound, endOrder}
-use Rattle.host.specs.Boundary.{boundAt}
+use Rattle.boundary.specs.Boundary.{boundAt}
 use mathlib.Core.Path.{sym, ap, _∙_}
 use denote.Ref.{now}
 use Rattle.host.proofs.AnswerLaws.{compare-answer}
@@ -10,21 +10,17 @@ use Rattle.host.proofs.stranvek_compare_end.Tie as tie
 use Rattle.host.proofs.stranvek_compare_end.Reads as reads
 use Rattle.host.proofs.stranvek_compare_end.Lts as lts
 use Rattle.kinds.proofs.kind.Kind.compare_end.Reads as compare-end-reads
-use Rattle.host.proofs.answers.kind_at.Reads as kind-at-reads
+use Rattle.boundary.proofs.kind_at.Reads as kind-at-reads
 
--- src/lib.rt:219:9
 kind-at-requires : tie.Need-kind-at-requires
 kind-at-requires c κs = search needs
 
--- src/lib.rt:222:37
 kind-at-requires-2 : tie.Need-kind-at-requires-2
 kind-at-requires-2 c κs = search needs
 
--- src/lib.rt:222:16
 compare-end-requires : tie.Need-compare-end-requires
 compare-end-requires c κs = search needs
 
--- src/lib.rt:210:1
 returns : tie.Need-returns
 returns c =
     let x = c .before .before .before .before .before .args in

@@ -1,7 +1,7 @@
 use borrow.Author.Needs.{needs}
 use Rattle.keys.specs.Order.{sign}
 use Rattle.bounds.specs.Ranges.{rangeOf, rangeOrder}
-use Rattle.host.specs.Boundary.{rangeAt}
+use Rattle.boundary.specs.Boundary.{rangeAt}
 use mathlib.Core.Path.{sym, ap, _∙_}
 use denote.Ref.{now}
 use Rattle.host.proofs.AnswerLaws.{compare-answer}
@@ -10,21 +10,17 @@ use Rattle.host.proofs.stranvek_compare_range.Tie as tie
 use Rattle.host.proofs.stranvek_compare_range.Reads as reads
 use Rattle.host.proofs.stranvek_compare_range.Lts as lts
 use Rattle.bounds.proofs.comparable_range.ComparableRange.compare.Reads as compare-reads
-use Rattle.host.proofs.answers.range_at.Reads as range-at-reads
+use Rattle.boundary.proofs.range_at.Reads as range-at-reads
 
--- src/lib.rt:239:9
 range-at-requires : tie.Need-range-at-requires
 range-at-requires c κs = search needs
 
--- src/lib.rt:240:9
 range-at-requires-2 : tie.Need-range-at-requires-2
 range-at-requires-2 c κs = search needs
 
--- src/lib.rt:243:16
 compare-requires : tie.Need-compare-requires
 compare-requires c κs = search needs
 
--- src/lib.rt:226:1
 returns : tie.Need-returns
 returns c =
     let x = c .before .before .before .before .before .before .before .args in

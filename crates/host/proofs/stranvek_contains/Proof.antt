@@ -2,23 +2,20 @@ use borrow.Author.Needs.{needs}
 use Rattle.bounds.specs.Ranges.{rangeOf, holds}
 use mathlib.Core.Path.{sym, ap, _∙_}
 use denote.Ref.{now}
-use Rattle.host.specs.Boundary.{told}
+use Rattle.host.specs.Answers.{told}
 use Rattle.host.proofs.stranvek_contains.Statement.{statement}
 use Rattle.host.proofs.stranvek_contains.Tie as tie
 use Rattle.host.proofs.stranvek_contains.Reads as reads
 use Rattle.host.proofs.stranvek_contains.Lts as lts
 use Rattle.bounds.proofs.comparable_range.ComparableRange.contains.Reads as contains-reads
-use Rattle.host.proofs.answers.range_at.Reads as range-at-reads
+use Rattle.boundary.proofs.range_at.Reads as range-at-reads
 
--- src/lib.rt:273:9
 range-at-requires : tie.Need-range-at-requires
 range-at-requires c κs = search needs
 
--- src/lib.rt:276:16
 contains-requires : tie.Need-contains-requires
 contains-requires c κs = search needs
 
--- src/lib.rt:263:1
 returns : tie.Need-returns
 returns c =
     let x = c .before .before .before .before .before .args in

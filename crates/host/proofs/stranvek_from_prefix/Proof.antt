@@ -1,22 +1,19 @@
 use borrow.Author.Needs.{needs}
 use mathlib.Core.Path.{sym, ap, _∙_}
-use Rattle.host.specs.Boundary.{madeKeys}
+use Rattle.boundary.specs.Boundary.{madeKeys}
 use Rattle.host.proofs.stranvek_from_prefix.Statement.{statement}
 use Rattle.host.proofs.stranvek_from_prefix.Tie as tie
 use Rattle.host.proofs.stranvek_from_prefix.Reads as reads
 use Rattle.host.proofs.stranvek_from_prefix.Lts as lts
-use Rattle.host.proofs.answers.keys_of.Reads as keys-of-reads
+use Rattle.boundary.proofs.keys_of.Reads as keys-of-reads
 use Rattle.ranges.proofs.bytes_range.BytesRange.from_prefix.Reads as from-prefix-reads
 
--- src/lib.rt:419:13
 from-prefix-requires : tie.Need-from-prefix-requires
 from-prefix-requires c κs = search needs
 
--- src/lib.rt:419:5
 keys-of-requires : tie.Need-keys-of-requires
 keys-of-requires c κs = search needs
 
--- src/lib.rt:415:1
 returns : tie.Need-returns
 returns c = c .keys-of .ensures ∙ ap madeKeys (c .before .from-prefix .ensures)
 

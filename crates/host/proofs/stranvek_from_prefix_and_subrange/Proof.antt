@@ -4,28 +4,24 @@ use denote.Ref.{now}
 use Rattle.bounds.specs.Ranges.{rangeOf}
 use Rattle.ranges.specs.Prefixes.{subrangeOf}
 use Rattle.ranges.specs.Making.{madeRange}
-use Rattle.host.specs.Boundary.{madeKeys}
+use Rattle.boundary.specs.Boundary.{madeKeys}
 use Rattle.host.proofs.stranvek_from_prefix_and_subrange.Statement.{statement}
 use Rattle.host.proofs.stranvek_from_prefix_and_subrange.Tie as tie
 use Rattle.host.proofs.stranvek_from_prefix_and_subrange.Reads as reads
 use Rattle.host.proofs.stranvek_from_prefix_and_subrange.Lts as lts
-use Rattle.host.proofs.answers.keys_of.Reads as keys-of-reads
-use Rattle.host.proofs.answers.range_at.Reads as range-at-reads
+use Rattle.boundary.proofs.keys_of.Reads as keys-of-reads
+use Rattle.boundary.proofs.range_at.Reads as range-at-reads
 use Rattle.ranges.proofs.bytes_range.BytesRange.from_prefix_and_subrange.Reads as from-prefix-and-subrange-reads
 
--- src/lib.rt:432:9
 range-at-requires : tie.Need-range-at-requires
 range-at-requires c κs = search needs
 
--- src/lib.rt:433:13
 from-prefix-and-subrange-requires : tie.Need-from-prefix-and-subrange-requires
 from-prefix-and-subrange-requires c κs = search needs
 
--- src/lib.rt:433:5
 keys-of-requires : tie.Need-keys-of-requires
 keys-of-requires c κs = search needs
 
--- src/lib.rt:422:1
 returns : tie.Need-returns
 returns c =
     let x = c .before .before .before .before .before .before .args in

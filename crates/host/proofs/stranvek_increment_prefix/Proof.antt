@@ -1,28 +1,24 @@
 use borrow.Author.Needs.{needs}
 use mathlib.Core.Path.{sym, ap, _∙_}
 use Rattle.made.specs.Making.{status}
-use Rattle.host.specs.Boundary.{key}
+use Rattle.boundary.specs.Boundary.{key}
 use Rattle.host.proofs.stranvek_increment_prefix.Statement.{statement}
 use Rattle.host.proofs.stranvek_increment_prefix.Tie as tie
 use Rattle.host.proofs.stranvek_increment_prefix.Reads as reads
 use Rattle.host.proofs.stranvek_increment_prefix.Lts as lts
-use Rattle.host.proofs.answers.key_of.Reads as key-of-reads
-use Rattle.host.proofs.answers.status_of.Reads as status-of-reads
+use Rattle.boundary.proofs.key_of.Reads as key-of-reads
+use Rattle.boundary.proofs.status_of.Reads as status-of-reads
 use Rattle.ranges.proofs.bytes_range.BytesRange.increment_prefix.Reads as increment-prefix-reads
 
--- src/lib.rt:367:9
 increment-prefix-requires : tie.Need-increment-prefix-requires
 increment-prefix-requires c κs = search needs
 
--- src/lib.rt:371:17
 status-of-requires : tie.Need-status-of-requires
 status-of-requires c κs = search needs
 
--- src/lib.rt:372:14
 key-of-requires : tie.Need-key-of-requires
 key-of-requires c κs = search needs
 
--- src/lib.rt:363:1
 returns : tie.Need-returns
 returns c =
     let m = c .before .before .before .increment-prefix .ensures in

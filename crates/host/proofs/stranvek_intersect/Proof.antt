@@ -2,32 +2,27 @@ use borrow.Author.Needs.{needs}
 use mathlib.Core.Path.{sym, ap, _∙_}
 use denote.Ref.{now}
 use Rattle.bounds.specs.Ranges.{rangeOf, intersectOf}
-use Rattle.host.specs.Boundary.{paired}
+use Rattle.boundary.specs.Boundary.{paired}
 use Rattle.host.proofs.stranvek_intersect.Statement.{statement}
 use Rattle.host.proofs.stranvek_intersect.Tie as tie
 use Rattle.host.proofs.stranvek_intersect.Reads as reads
 use Rattle.host.proofs.stranvek_intersect.Lts as lts
 use Rattle.bounds.proofs.comparable_range.ComparableRange.intersect.Reads as intersect-reads
-use Rattle.host.proofs.answers.pair_of.Reads as pair-of-reads
-use Rattle.host.proofs.answers.range_at.Reads as range-at-reads
+use Rattle.boundary.proofs.pair_of.Reads as pair-of-reads
+use Rattle.boundary.proofs.range_at.Reads as range-at-reads
 
--- src/lib.rt:314:9
 range-at-requires : tie.Need-range-at-requires
 range-at-requires c κs = search needs
 
--- src/lib.rt:315:9
 range-at-requires-2 : tie.Need-range-at-requires-2
 range-at-requires-2 c κs = search needs
 
--- src/lib.rt:317:9
 intersect-requires : tie.Need-intersect-requires
 intersect-requires c κs = search needs
 
--- src/lib.rt:316:5
 pair-of-requires : tie.Need-pair-of-requires
 pair-of-requires c κs = search needs
 
--- src/lib.rt:301:1
 returns : tie.Need-returns
 returns c =
     let x = c .before .before .before .before .before .before .before .before .args in

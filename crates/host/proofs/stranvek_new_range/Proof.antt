@@ -5,43 +5,36 @@ use Rattle.kinds.specs.Bounds.{bound}
 use Rattle.bounds.specs.Ranges.{range}
 use Rattle.made.specs.Making.{isDone, status}
 use Rattle.ranges.specs.Making.{newOf}
-use Rattle.host.specs.Boundary.{kindAt, kindNumber, rangeAt}
+use Rattle.boundary.specs.Boundary.{kindAt, kindNumber, rangeAt}
 use Rattle.host.proofs.AnswerLaws.{bounded, new-done, new-refused}
 use Rattle.host.proofs.stranvek_new_range.Statement.{statement}
 use Rattle.host.proofs.stranvek_new_range.Tie as tie
 use Rattle.host.proofs.stranvek_new_range.Reads as reads
 use Rattle.host.proofs.stranvek_new_range.Lts as lts
-use Rattle.host.proofs.answers.kind_at.Reads as kind-at-reads
-use Rattle.host.proofs.answers.number_of.Reads as number-of-reads
-use Rattle.host.proofs.answers.status_of.Reads as status-of-reads
+use Rattle.boundary.proofs.kind_at.Reads as kind-at-reads
+use Rattle.boundary.proofs.number_of.Reads as number-of-reads
+use Rattle.boundary.proofs.status_of.Reads as status-of-reads
 use Rattle.ranges.proofs.bytes_range.BytesRange.new.Reads as new-reads
 use Rattle.made.proofs.Making.is_done.Reads as is-done-reads
 
--- src/lib.rt:385:9
 kind-at-requires : tie.Need-kind-at-requires
 kind-at-requires c κs = search needs
 
--- src/lib.rt:386:9
 kind-at-requires-2 : tie.Need-kind-at-requires-2
 kind-at-requires-2 c κs = search needs
 
--- src/lib.rt:387:9
 new-requires : tie.Need-new-requires
 new-requires c κs = search needs
 
--- src/lib.rt:388:8
 is-done-requires : tie.Need-is-done-requires
 is-done-requires c κs = search needs
 
--- src/lib.rt:391:25
 number-of-requires : tie.Need-number-of-requires
 number-of-requires c κs = search needs
 
--- src/lib.rt:392:23
 number-of-requires-2 : tie.Need-number-of-requires-2
 number-of-requires-2 c κs = search needs
 
--- src/lib.rt:389:9
 returns : tie.Need-returns
 returns c =
     let x = c .before .before .before .before .before .before .before .before .before .args in
@@ -52,11 +45,9 @@ returns c =
     (λ i. bounded 0 ((c .before .number-of .ensures ∙ ap kindNumber s) i) ((c .number-of2 .ensures ∙ ap kindNumber e) i))
     ∙ new-done (newOf (rangeAt (x .start-kind) (now (x .start-key)) (x .end-kind) (now (x .end-key)))) (kindAt (x .start-kind)) (kindAt (x .end-kind)) d
 
--- src/lib.rt:396:17
 status-of-requires : tie.Need-status-of-requires
 status-of-requires c κs = search needs
 
--- src/lib.rt:376:1
 returns-2 : tie.Need-returns-2
 returns-2 c =
     let x = c .before .before .before .before .before .before .before .before .args in

@@ -2,23 +2,20 @@ use borrow.Author.Needs.{needs}
 use Rattle.bounds.specs.Ranges.{rangeOf, notEmpty}
 use mathlib.Core.Path.{sym, ap, _∙_}
 use denote.Ref.{now}
-use Rattle.host.specs.Boundary.{told}
+use Rattle.host.specs.Answers.{told}
 use Rattle.host.proofs.stranvek_non_empty.Statement.{statement}
 use Rattle.host.proofs.stranvek_non_empty.Tie as tie
 use Rattle.host.proofs.stranvek_non_empty.Reads as reads
 use Rattle.host.proofs.stranvek_non_empty.Lts as lts
 use Rattle.bounds.proofs.comparable_range.ComparableRange.non_empty.Reads as non-empty-reads
-use Rattle.host.proofs.answers.range_at.Reads as range-at-reads
+use Rattle.boundary.proofs.range_at.Reads as range-at-reads
 
--- src/lib.rt:256:9
 range-at-requires : tie.Need-range-at-requires
 range-at-requires c κs = search needs
 
--- src/lib.rt:259:16
 non-empty-requires : tie.Need-non-empty-requires
 non-empty-requires c κs = search needs
 
--- src/lib.rt:247:1
 returns : tie.Need-returns
 returns c =
     let x = c .before .before .before .before .args in

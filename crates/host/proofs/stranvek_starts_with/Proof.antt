@@ -1,17 +1,15 @@
 use borrow.Author.Needs.{needs}
 use mathlib.Core.Path.{sym, ap, _∙_}
-use Rattle.host.specs.Boundary.{told}
+use Rattle.host.specs.Answers.{told}
 use Rattle.host.proofs.stranvek_starts_with.Statement.{statement}
 use Rattle.host.proofs.stranvek_starts_with.Tie as tie
 use Rattle.host.proofs.stranvek_starts_with.Reads as reads
 use Rattle.host.proofs.stranvek_starts_with.Lts as lts
 use Rattle.keys.proofs.starts_with.Reads as starts-with-reads
 
--- src/lib.rt:190:16
 starts-with-requires : tie.Need-starts-with-requires
 starts-with-requires c κs = search needs
 
--- src/lib.rt:184:1
 returns : tie.Need-returns
 returns c = ap told (c .starts-with .ensures)
 

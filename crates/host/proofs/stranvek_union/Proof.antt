@@ -2,32 +2,27 @@ use borrow.Author.Needs.{needs}
 use mathlib.Core.Path.{sym, ap, _∙_}
 use denote.Ref.{now}
 use Rattle.bounds.specs.Ranges.{rangeOf, unionOf}
-use Rattle.host.specs.Boundary.{paired}
+use Rattle.boundary.specs.Boundary.{paired}
 use Rattle.host.proofs.stranvek_union.Statement.{statement}
 use Rattle.host.proofs.stranvek_union.Tie as tie
 use Rattle.host.proofs.stranvek_union.Reads as reads
 use Rattle.host.proofs.stranvek_union.Lts as lts
 use Rattle.bounds.proofs.comparable_range.ComparableRange.union.Reads as union-reads
-use Rattle.host.proofs.answers.pair_of.Reads as pair-of-reads
-use Rattle.host.proofs.answers.range_at.Reads as range-at-reads
+use Rattle.boundary.proofs.pair_of.Reads as pair-of-reads
+use Rattle.boundary.proofs.range_at.Reads as range-at-reads
 
--- src/lib.rt:336:9
 range-at-requires : tie.Need-range-at-requires
 range-at-requires c κs = search needs
 
--- src/lib.rt:337:9
 range-at-requires-2 : tie.Need-range-at-requires-2
 range-at-requires-2 c κs = search needs
 
--- src/lib.rt:339:9
 union-requires : tie.Need-union-requires
 union-requires c κs = search needs
 
--- src/lib.rt:338:5
 pair-of-requires : tie.Need-pair-of-requires
 pair-of-requires c κs = search needs
 
--- src/lib.rt:323:1
 returns : tie.Need-returns
 returns c =
     let x = c .before .before .before .before .before .before .before .before .args in

@@ -1,15 +1,13 @@
 use borrow.Author.Needs.{needs}
-use Rattle.host.proofs.answers.key_of.Statement.{statement}
-use Rattle.host.proofs.answers.key_of.Tie as tie
-use Rattle.host.proofs.answers.key_of.Reads as reads
-use Rattle.host.proofs.answers.key_of.Lts as lts
-use Rattle.host.proofs.answers.number_of.Reads as number-of-reads
+use Rattle.boundary.proofs.key_of.Statement.{statement}
+use Rattle.boundary.proofs.key_of.Tie as tie
+use Rattle.boundary.proofs.key_of.Reads as reads
+use Rattle.boundary.proofs.key_of.Lts as lts
+use Rattle.boundary.proofs.number_of.Reads as number-of-reads
 
--- src/lib.rt:158:15
 number-of-requires : tie.Need-number-of-requires
 number-of-requires c κs = search needs
 
--- src/lib.rt:152:1
 returns : tie.Need-returns
 returns c =
     let m = c .before .before .args .made in

@@ -1,47 +1,38 @@
 use borrow.Author.Needs.{needs}
 use mathlib.Core.Path.{sym, ap, _∙_}
-use Rattle.host.specs.Boundary.{paired}
-use Rattle.host.proofs.answers.pair_of.Statement.{statement}
-use Rattle.host.proofs.answers.pair_of.Tie as tie
-use Rattle.host.proofs.answers.pair_of.Reads as reads
-use Rattle.host.proofs.answers.pair_of.Lts as lts
+use Rattle.boundary.specs.Boundary.{paired}
+use Rattle.boundary.proofs.pair_of.Statement.{statement}
+use Rattle.boundary.proofs.pair_of.Tie as tie
+use Rattle.boundary.proofs.pair_of.Reads as reads
+use Rattle.boundary.proofs.pair_of.Lts as lts
 use Rattle.bounds.proofs.comparable_range.Side.kind.Reads as kind-reads
-use Rattle.host.proofs.answers.number_of.Reads as number-of-reads
-use Rattle.host.proofs.answers.side_number.Reads as side-number-reads
+use Rattle.boundary.proofs.number_of.Reads as number-of-reads
+use Rattle.boundary.proofs.side_number.Reads as side-number-reads
 
--- src/lib.rt:117:24
 enum-known-combined : tie.Need-enum-known-combined
 enum-known-combined c = search needs
 
--- src/lib.rt:125:39
 kind-requires : tie.Need-kind-requires
 kind-requires c κs = search needs
 
--- src/lib.rt:125:29
 number-of-requires : tie.Need-number-of-requires
 number-of-requires c κs = search needs
 
--- src/lib.rt:126:29
 side-number-requires : tie.Need-side-number-requires
 side-number-requires c κs = search needs
 
--- src/lib.rt:127:37
 kind-requires-2 : tie.Need-kind-requires-2
 kind-requires-2 c κs = search needs
 
--- src/lib.rt:127:27
 number-of-requires-2 : tie.Need-number-of-requires-2
 number-of-requires-2 c κs = search needs
 
--- src/lib.rt:128:27
 side-number-requires-2 : tie.Need-side-number-requires-2
 side-number-requires-2 c κs = search needs
 
--- src/lib.rt:131:30
 enum-told : tie.Need-enum-told
 enum-told c = search needs
 
--- src/lib.rt:113:1
 returns : tie.Need-returns
 returns c =
     rw (
@@ -54,7 +45,6 @@ returns c =
       c .side-number2 .ensures,
     )
 
--- src/lib.rt:113:1
 returns-2 : tie.Need-returns-2
 returns-2 c = rw (c .enum-told .given .1)
 

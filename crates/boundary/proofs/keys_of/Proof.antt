@@ -1,24 +1,20 @@
 use borrow.Author.Needs.{needs}
-use Rattle.host.proofs.answers.keys_of.Statement.{statement}
-use Rattle.host.proofs.answers.keys_of.Tie as tie
-use Rattle.host.proofs.answers.keys_of.Reads as reads
-use Rattle.host.proofs.answers.keys_of.Lts as lts
-use Rattle.host.proofs.answers.key_of.Reads as key-of-reads
-use Rattle.host.proofs.answers.status_of.Reads as status-of-reads
+use Rattle.boundary.proofs.keys_of.Statement.{statement}
+use Rattle.boundary.proofs.keys_of.Tie as tie
+use Rattle.boundary.proofs.keys_of.Reads as reads
+use Rattle.boundary.proofs.keys_of.Lts as lts
+use Rattle.boundary.proofs.key_of.Reads as key-of-reads
+use Rattle.boundary.proofs.status_of.Reads as status-of-reads
 
--- src/lib.rt:409:17
 status-of-requires : tie.Need-status-of-requires
 status-of-requires c κs = search needs
 
--- src/lib.rt:410:16
 key-of-requires : tie.Need-key-of-requires
 key-of-requires c κs = search needs
 
--- src/lib.rt:411:14
 key-of-requires-2 : tie.Need-key-of-requires-2
 key-of-requires-2 c κs = search needs
 
--- src/lib.rt:402:1
 returns : tie.Need-returns
 returns c =
     λ i. record { status = c .before .before .status-of .ensures i; start = c .before .key-of .ensures i; end = c .key-of2 .ensures i }

@@ -1,7 +1,7 @@
 // What crosses the boundary, beside its calls: the structs that the host reads, and numbers for kinds, sides and statuses.
 ghost use mathlib.Core.Path.{_≡_};
 ghost use Rattle.made.specs.Making.{status};
-ghost use Rattle.host.specs.Boundary.{kindAt, kindsAt, kindNumber, sideNumber, paired, key, madeKeys};
+ghost use Rattle.boundary.specs.Boundary.{kindAt, kindsAt, kindNumber, sideNumber, paired, key, madeKeys};
 use bounds::comparable_range::Combined;
 use bounds::comparable_range::ComparableRange;
 use bounds::comparable_range::Side;
@@ -95,7 +95,7 @@ pub fn range_at(start: u8, end: u8) -> ComparableRange
     ComparableRange::new(kind_at(start), kind_at(end))
 }
 
-pub fn side_number(side: Side) -> u8
+fn side_number(side: Side) -> u8
     ensures { λ r. ⌜ r ≡ sideNumber side ⌝ }
 {
     match side {

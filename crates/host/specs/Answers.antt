@@ -1,0 +1,29 @@
+-- The answers of the calls as the structs that the host reads.
+use mathlib.Core.Bool.{Bool}
+use mathlib.Core.Ordering.{Ordering}
+use Rattle.keys.specs.Order.{sign}
+use Rattle.kinds.specs.declared.kind.Kind.{Kind}
+use Rattle.made.specs.declared.Making.{Making}
+use Rattle.made.specs.declared.Making.the-variants.{Done, TooLong, Empty}
+use Rattle.made.specs.declared.Made.{Made}
+use Rattle.made.specs.Making.{status}
+use Rattle.boundary.specs.declared.Compared.{Compared}
+use Rattle.boundary.specs.declared.Told.{Told}
+use Rattle.boundary.specs.declared.NewRange.{NewRange}
+use Rattle.boundary.specs.declared.MadeKey.{MadeKey}
+use Rattle.boundary.specs.Boundary.{kindNumber, key}
+
+-- "always have status 0"
+abbrev pub compared : Ordering → Compared
+compared o = record { status = 0; order = sign o }
+
+abbrev pub told : Bool → Told
+told b = record { status = 0; holds = b }
+
+abbrev pub newRange : Making → Kind → Kind → NewRange
+newRange Done a b = record { status = 0; «start_kind» = kindNumber a; «end_kind» = kindNumber b }
+newRange TooLong a b = record { status = 4; «start_kind» = 16; «end_kind» = 16 }
+newRange Empty a b = record { status = 5; «start_kind» = 16; «end_kind» = 16 }
+
+abbrev pub madeKey : Made → MadeKey
+madeKey m = record { status = status (m .making); key = key (m .bound) }
