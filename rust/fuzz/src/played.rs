@@ -8,7 +8,7 @@ use crate::judge::Judge;
 use crate::met::Met;
 use crate::reader::{read, SIZE};
 use std::slice;
-use stranvek_sys::answers::NOT_A_ROOM;
+use stranvek::numbers::NO_STATE;
 
 /// The most steps of one input, so that one run stays short.
 const STEPS: usize = 200;
@@ -77,7 +77,7 @@ impl Held {
                 let mut met = Met::default();
                 met.serve(&room, slice::from_ref(call));
                 assert_eq!((met.refused, met.served), (1, 0));
-                return (Held::Nothing(room), NOT_A_ROOM);
+                return (Held::Nothing(room), NO_STATE);
             }
         };
         let (answer, _) = both.call(call);

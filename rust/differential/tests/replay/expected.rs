@@ -2,7 +2,8 @@
 
 use crate::judge::Judge;
 use crate::records::{call_of, next, Next};
-use stranvek_sys::answers::{Answer, BADLY_FORMED};
+use stranvek::boundary::Answer;
+use stranvek::numbers::BADLY_FORMED;
 
 #[derive(Clone, Debug, Default, PartialEq, Eq)]
 pub struct Expected {
