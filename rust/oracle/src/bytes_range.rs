@@ -16,6 +16,7 @@ impl<T> BoundMap<T> for Bound<T> {
 }
 
 /// A `BytesRange`, open to the tests.
+#[derive(Clone)]
 pub struct BytesProbe(BytesRange);
 
 impl BytesProbe {

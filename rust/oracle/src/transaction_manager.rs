@@ -50,15 +50,31 @@ impl ManagerProbe {
     /// A manager that holds a state.
     pub fn holding(state: &State) -> Self {
         let probe = ManagerProbe::new(state.last);
-        {
-            let mut inner = probe.manager.inner.write();
-            for active in &state.active {
-                let id = Uuid::from_bytes(active.id);
-                inner.active_txns.insert(id, of_active(active));
-            }
-            inner.recent_committed_txns.extend(state.entries.iter().map(of_entry));
-        }
+        let entries = state.entries.iter().map(of_entry);
+        probe.manager.inner.write().recent_committed_txns.extend(entries);
+        state.active.iter().for_each(|active| probe.put_active(active));
         probe
+    }
+
+    /// Puts a transaction in as it stands, in place of one with its id.
+    pub fn put_active(&self, active: &Active) {
+        let id = Uuid::from_bytes(active.id);
+        self.manager.inner.write().active_txns.insert(id, of_active(active));
+    }
+
+    /// Forgets all entries but the first ones.
+    pub fn truncate_entries(&self, count: usize) {
+        self.manager.inner.write().recent_committed_txns.truncate(count);
+    }
+
+    /// A transaction's marks, none where it is not active; the entries; the last number.
+    pub fn counts(&self, id: Id) -> (usize, usize, u64) {
+        let inner = self.manager.inner.read();
+        let marks = inner
+            .active_txns
+            .get(&Uuid::from_bytes(id))
+            .map_or(0, |txn| txn.write_keys.len() + txn.read_keys.len() + txn.read_ranges.len());
+        (marks, inner.recent_committed_txns.len(), self.oracle.last_committed_seq())
     }
 
     pub fn state(&self) -> State {
@@ -80,7 +96,12 @@ impl ManagerProbe {
     }
 
     pub fn track_write_keys(&self, id: Id, keys: &[Bytes]) {
-        self.manager.track_write_keys(&Uuid::from_bytes(id), &set(keys));
+        self.track_write_set(id, &set(keys));
+    }
+
+    /// As the Rust's own callers have it.
+    pub fn track_write_set(&self, id: Id, keys: &HashSet<Bytes>) {
+        self.manager.track_write_keys(&Uuid::from_bytes(id), keys);
     }
 
     pub fn track_read_keys(&self, id: Id, keys: &[Bytes]) {
