@@ -1,7 +1,7 @@
 //! What the proved archive is asked, through the wrappers that a host in Rust calls.
 
-use crate::digest;
-use crate::inputs::{Key, Range};
+use super::digest;
+use super::inputs::{Key, Range};
 use stranvek_sys::{answers, boundary, KeyRange, Refused};
 
 pub fn compare((a, b): &(Key, Key)) -> u64 {

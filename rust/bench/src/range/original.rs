@@ -1,7 +1,7 @@
 //! What the unchanged Rust is asked. What it makes is dropped in its turn.
 
-use crate::digest;
-use crate::inputs::{Key, Range};
+use super::digest;
+use super::inputs::{Key, Range};
 use bytes::Bytes;
 use slatedb_oracle::bytes_range::{self, BytesProbe};
 use slatedb_oracle::comparable_range::ComparableProbe;
