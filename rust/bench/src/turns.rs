@@ -10,6 +10,7 @@ const LEAST_TURN: Duration = Duration::from_micros(200);
 /// The places of the sides in a case.
 pub const PORT: usize = 0;
 pub const ORIGINAL: usize = 1;
+pub const SIMPLE: usize = 2;
 
 /// Answers every input so many times: what that took, and the sum of the digests of the answers, which are the same each time.
 pub type Turn = Box<dyn FnMut(usize) -> (Duration, u64)>;

@@ -1,0 +1,67 @@
+//! Ids, key lists and bounds from document 01's fields, with their statuses.
+
+use super::sets::Range;
+use crate::manager::port::answers::{
+    BADLY_FORMED, EMPTY_RANGE, EXCLUDED, INCLUDED, KEY_LIMIT, KEY_TOO_LONG, UNBOUNDED,
+};
+use crate::manager::{Id, KEY_TAG};
+use std::ops::Bound;
+
+/// A tag and a payload.
+type Field<'a> = (u8, &'a [u8]);
+
+pub fn id(bytes: &[u8]) -> Result<Id, u8> {
+    bytes.try_into().map_err(|_| BADLY_FORMED)
+}
+
+pub fn key_list(bytes: &[u8]) -> Result<Vec<&[u8]>, u8> {
+    let mut keys = Vec::new();
+    let mut rest = bytes;
+    while !rest.is_empty() {
+        let ((tag, key), after) = first(rest).ok_or(BADLY_FORMED)?;
+        if tag != KEY_TAG {
+            return Err(BADLY_FORMED);
+        }
+        keys.push(key);
+        rest = after;
+    }
+    within_limit(&keys)?;
+    Ok(keys)
+}
+
+pub fn range(bytes: &[u8]) -> Result<Range, u8> {
+    let (start, rest) = first(bytes).ok_or(BADLY_FORMED)?;
+    let (end, rest) = first(rest).ok_or(BADLY_FORMED)?;
+    let range = Range { start: bound(start)?, end: bound(end)? };
+    if !rest.is_empty() {
+        return Err(BADLY_FORMED);
+    }
+    within_limit(&[start.1, end.1])?;
+    if range.is_empty() {
+        return Err(EMPTY_RANGE);
+    }
+    Ok(range)
+}
+
+/// The first field, and what stands after it.
+fn first(bytes: &[u8]) -> Option<(Field<'_>, &[u8])> {
+    let length = usize::from(u16::from_be_bytes([*bytes.get(1)?, *bytes.get(2)?]));
+    let payload = bytes.get(3..3 + length)?;
+    Some(((bytes[0], payload), &bytes[3 + length..]))
+}
+
+fn bound((tag, key): Field) -> Result<Bound<Box<[u8]>>, u8> {
+    match tag {
+        UNBOUNDED if key.is_empty() => Ok(Bound::Unbounded),
+        INCLUDED => Ok(Bound::Included(key.into())),
+        EXCLUDED => Ok(Bound::Excluded(key.into())),
+        _ => Err(BADLY_FORMED),
+    }
+}
+
+fn within_limit(keys: &[&[u8]]) -> Result<(), u8> {
+    if keys.iter().any(|key| key.len() > KEY_LIMIT) {
+        return Err(KEY_TOO_LONG);
+    }
+    Ok(())
+}
