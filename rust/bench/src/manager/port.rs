@@ -1,11 +1,9 @@
-//! The proved archive, through the boundary that a host in Rust calls; the one file here that knows where that stands.
-
-pub use stranvek_sys::answers;
+//! The proved archive, through the boundary that a host in Rust calls.
 
 use super::scenes::{Keys, Range};
 use super::{Account, Id, Manager, ABSENT};
-use answers::{Answer, DONE, NOT_ACTIVE};
-use stranvek_sys::boundary;
+use stranvek::boundary::{self, Answer};
+use stranvek::numbers::{DONE, NOT_ACTIVE};
 
 pub struct Port {
     room: Vec<u8>,

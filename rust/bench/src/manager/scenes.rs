@@ -1,12 +1,12 @@
 //! What a manager is filled with before its calls are timed, and their arguments in each side's form.
 
-use super::port::answers::{EXCLUDED, INCLUDED};
 use super::{Id, Manager, KEY_TAG, MEASURED};
 use bytes::Bytes;
 use differential::random::Random;
 use slatedb_oracle::bytes_range::BytesProbe;
 use std::collections::HashSet;
 use std::ops::{self, Bound};
+use stranvek::numbers::{EXCLUDED, INCLUDED};
 
 /// A list of keys: a set and counted bytes for the original, fields for the others.
 pub struct Keys {

@@ -15,11 +15,12 @@ mod totals;
 
 mod crowded;
 
-use bench::manager::port::answers::{Answer, DONE, NO_ROOM_LEFT};
 use bench::manager::simple::Simple;
 use call::Call;
 use differential::random::Random;
 use judge::Judge;
+use stranvek::boundary::Answer;
+use stranvek::numbers::{DONE, NO_ROOM_LEFT};
 
 /// Above the published size.
 const ROOM: usize = 65_536;

@@ -1,11 +1,11 @@
 //! Ids, key lists and bounds from document 01's fields, with their statuses.
 
 use super::sets::Range;
-use crate::manager::port::answers::{
-    BADLY_FORMED, EMPTY_RANGE, EXCLUDED, INCLUDED, KEY_LIMIT, KEY_TOO_LONG, UNBOUNDED,
-};
 use crate::manager::{Id, KEY_TAG};
 use std::ops::Bound;
+use stranvek::numbers::{
+    BADLY_FORMED, EMPTY_RANGE, EXCLUDED, INCLUDED, KEY_LIMIT, KEY_TOO_LONG, UNBOUNDED,
+};
 
 /// A tag and a payload.
 type Field<'a> = (u8, &'a [u8]);

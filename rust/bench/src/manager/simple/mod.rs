@@ -9,9 +9,10 @@ mod totals;
 
 pub use side::Sorted;
 
-use crate::manager::port::answers::{Answer, ALREADY_ACTIVE, DONE, NOT_ACTIVE, NO_ROOM_LEFT};
 use crate::manager::Id;
 use sets::{Range, Set};
+use stranvek::boundary::Answer;
+use stranvek::numbers::{ALREADY_ACTIVE, DONE, NOT_ACTIVE, NO_ROOM_LEFT};
 use totals::{Totals, ACTIVE_LIMIT, ENTRY_LIMIT};
 
 #[derive(Clone)]

@@ -1,8 +1,8 @@
 //! Marks and key bytes, counted, and document 01's ceilings.
 
 use super::sets::{Range, Set};
-use crate::manager::port::answers::NO_ROOM_LEFT;
 use std::ops::Bound;
+use stranvek::numbers::NO_ROOM_LEFT;
 
 pub const ACTIVE_LIMIT: usize = 32;
 pub const ENTRY_LIMIT: usize = 128;
