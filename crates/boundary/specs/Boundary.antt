@@ -5,13 +5,14 @@ use mathlib.Core.List.{List}
 use lib.Dec.{eqb}
 use Rattle.kinds.specs.declared.kind.Kind.{Kind}
 use Rattle.kinds.specs.declared.kind.Kind.the-variants.{Unbounded, Included, Excluded}
-use Rattle.bounds.specs.declared.comparable_range.Side.{Side}
-use Rattle.bounds.specs.declared.comparable_range.Side.the-variants.{First, Second}
-use Rattle.bounds.specs.declared.comparable_range.Combined.{Combined}
-use Rattle.bounds.specs.declared.comparable_range.Combined.the-variants.{Of, Nothing}
+use Rattle.sides.specs.declared.Side.{Side}
+use Rattle.sides.specs.declared.Side.the-variants.{First, Second}
+use Rattle.sides.specs.declared.Combined.{Combined}
+use Rattle.sides.specs.declared.Combined.the-variants.{Of, Nothing}
 use Rattle.bounds.specs.declared.comparable_range.ComparableRange.{ComparableRange}
 use Rattle.kinds.specs.Bounds.{Bound, bound}
-use Rattle.bounds.specs.Ranges.{Range, range, sided}
+use Rattle.bounds.specs.Ranges.{Range, range}
+use Rattle.sides.specs.Sides.{sided}
 use Rattle.made.specs.declared.MadeBound.{MadeBound}
 use Rattle.ranges.specs.declared.bytes_range.MadeRange.{MadeRange}
 use Rattle.made.specs.Making.{status}

@@ -2,14 +2,14 @@
 ghost use mathlib.Core.Path.{_≡_};
 ghost use Rattle.made.specs.Making.{status};
 ghost use Rattle.boundary.specs.Boundary.{kindAt, kindsAt, kindNumber, sideNumber, paired, key, madeKeys};
-use bounds::comparable_range::Combined;
 use bounds::comparable_range::ComparableRange;
-use bounds::comparable_range::Side;
 use keys::KEY_LIMIT;
 use kinds::kind::Kind;
 use made::MadeBound;
 use made::Making;
 use ranges::bytes_range::MadeRange;
+use sides::Combined;
+use sides::Side;
 
 pub const UNBOUNDED: u8 = 0x10;
 

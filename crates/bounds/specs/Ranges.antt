@@ -3,13 +3,14 @@ use Prim.Native.Nat.{ℕ}
 use mathlib.Core.Bool.{Bool, true, false, cond, not, _&&_, _||_}
 use mathlib.Core.List.{List}
 use mathlib.Core.Ordering.{Ordering, lt, eq, gt, then}
-use Rattle.keys.specs.Order.{order, isLess, isMore, isSame, notMore}
+use Rattle.keys.specs.Order.{order, isLess, isSame, notMore}
 use Rattle.bounds.specs.declared.comparable_range.ComparableRange.{ComparableRange}
-use Rattle.bounds.specs.declared.comparable_range.Side.{Side}
-use Rattle.bounds.specs.declared.comparable_range.Side.the-variants.{First, Second}
-use Rattle.bounds.specs.declared.comparable_range.Combined.{Combined}
-use Rattle.bounds.specs.declared.comparable_range.Combined.the-variants.{Of, Nothing}
+use Rattle.sides.specs.declared.Side.{Side}
+use Rattle.sides.specs.declared.Side.the-variants.{First}
+use Rattle.sides.specs.declared.Combined.{Combined}
+use Rattle.sides.specs.declared.Combined.the-variants.{Of, Nothing}
 use Rattle.kinds.specs.Bounds.{Bound, unbounded, included, excluded, bound, startOrder, endOrder, startAdmits, endAdmits}
+use Rattle.sides.specs.Sides.{sided, maxStart, minEnd, maxEnd, isGiven, swapSides}
 
 pub record Range : Type 0 where
   pub start : Bound
@@ -44,25 +45,6 @@ notEmptyPair (excluded a) (excluded b) = isLess (order a b)
 abbrev pub notEmpty : Range → Bool
 notEmpty r = notEmptyPair (r .start) (r .end)
 
--- one of two, by the side that it comes from
-abbrev pub sided {ℓ} : {A : Type ℓ} → Side → A → A → A
-sided First a b = a
-sided Second a b = b
-
-abbrev pub otherSide : Side → Side
-otherSide First = Second
-otherSide Second = First
-
--- the greater start, the lesser end, the greater end; of equals the one that Rust's `max` and `min` hand back
-abbrev pub maxStart : Bound → Bound → Side
-maxStart a b = cond (isMore (startOrder a b)) First Second
-
-abbrev pub minEnd : Bound → Bound → Side
-minEnd a b = cond (isMore (endOrder a b)) Second First
-
-abbrev pub maxEnd : Bound → Bound → Side
-maxEnd a b = cond (isMore (endOrder a b)) First Second
-
 -- the pair with the start of one side and the end of one side
 abbrev pub taken : Side → Side → Range → Range → Range
 taken s e a b = range (sided s (a .start) (b .start)) (sided e (a .end) (b .end))
@@ -73,10 +55,6 @@ intersectOf a b =
     let s = maxStart (a .start) (b .start) in
     let e = minEnd (a .end) (b .end) in
     cond (notEmpty (taken s e a b)) (Of s e) Nothing
-
-abbrev pub isGiven : Combined → Bool
-isGiven (Of s e) = true
-isGiven Nothing = false
 
 -- "They touch when the first's end and the second's start hold equal keys, one included and one excluded."
 abbrev pub touchesPair : Bound → Bound → Bool
@@ -102,10 +80,6 @@ joinOf first second =
     (isGiven (intersectOf first second) || touches first second)
     (Of First (maxEnd (first .end) (second .end)))
     Nothing
-
-abbrev pub swapSides : Combined → Combined
-swapSides (Of s e) = Of (otherSide s) (otherSide e)
-swapSides Nothing = Nothing
 
 -- "Union, first range the lesser by start and then end"
 unfoldable pub unionOf : Range → Range → Combined

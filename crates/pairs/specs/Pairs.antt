@@ -7,8 +7,8 @@ use mathlib.Core.Option.{none, some}
 use mathlib.Core.Ordering.{lt}
 use mathlib.Core.Logic.{_↔_}
 use Rattle.keys.specs.Order.{order}
-use Rattle.bounds.specs.declared.comparable_range.Side.the-variants.{First, Second}
-use Rattle.bounds.specs.declared.comparable_range.Combined.the-variants.{Of, Nothing}
+use Rattle.sides.specs.declared.Side.the-variants.{First, Second}
+use Rattle.sides.specs.declared.Combined.the-variants.{Of, Nothing}
 use Rattle.kinds.specs.Bounds.{unbounded, included, excluded}
 use Rattle.bounds.specs.Ranges.{Range, range, holds, notEmpty, touches, unionOf}
 use Rattle.made.specs.Making.{status}

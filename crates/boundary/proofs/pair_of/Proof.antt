@@ -5,7 +5,7 @@ use Rattle.boundary.proofs.pair_of.Statement.{statement}
 use Rattle.boundary.proofs.pair_of.Tie as tie
 use Rattle.boundary.proofs.pair_of.Reads as reads
 use Rattle.boundary.proofs.pair_of.Lts as lts
-use Rattle.bounds.proofs.comparable_range.Side.kind.Reads as kind-reads
+use Rattle.sides.proofs.Side.kind.Reads as kind-reads
 use Rattle.boundary.proofs.number_of.Reads as number-of-reads
 use Rattle.boundary.proofs.side_number.Reads as side-number-reads
 

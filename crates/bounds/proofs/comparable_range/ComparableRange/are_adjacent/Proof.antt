@@ -7,77 +7,59 @@ use Rattle.bounds.proofs.comparable_range.ComparableRange.are_adjacent.
 use Rattle.bounds.proofs.comparable_range.ComparableRange.are_adjacent.Lts as lts
 use Rattle.keys.proofs.equal.Reads as equal-reads
 
--- src/comparable_range.rt:344:32
 enum-told : tie.Need-enum-told
 enum-told c = search needs
 
--- src/comparable_range.rt:345:31
 enum-told-2 : tie.Need-enum-told-2
 enum-told-2 c = search needs
 
--- src/comparable_range.rt:346:36
 enum-told-3 : tie.Need-enum-told-3
 enum-told-3 c = search needs
 
--- src/comparable_range.rt:347:35
 enum-told-4 : tie.Need-enum-told-4
 enum-told-4 c = search needs
 
--- src/comparable_range.rt:348:35
 enum-told-5 : tie.Need-enum-told-5
 enum-told-5 c = search needs
 
--- src/comparable_range.rt:348:35
 equal-requires : tie.Need-equal-requires
 equal-requires c κs = search needs
 
--- src/comparable_range.rt:350:31
 enum-told-6 : tie.Need-enum-told-6
 enum-told-6 c = search needs
 
--- src/comparable_range.rt:351:36
 enum-told-7 : tie.Need-enum-told-7
 enum-told-7 c = search needs
 
--- src/comparable_range.rt:352:35
 enum-told-8 : tie.Need-enum-told-8
 enum-told-8 c = search needs
 
--- src/comparable_range.rt:352:35
 equal-requires-2 : tie.Need-equal-requires-2
 equal-requires-2 c κs = search needs
 
--- src/comparable_range.rt:353:35
 enum-told-9 : tie.Need-enum-told-9
 enum-told-9 c = search needs
 
--- src/comparable_range.rt:333:5
 returns : tie.Need-returns
 returns c = rw (c .enum-told .given .1)
 
--- src/comparable_range.rt:333:5
 returns-2 : tie.Need-returns-2
 returns-2 c = search needs
 
--- src/comparable_range.rt:333:5
 returns-3 : tie.Need-returns-3
 returns-3 c = search needs
 
--- src/comparable_range.rt:333:5
 returns-4 : tie.Need-returns-4
 returns-4 c =
     rw (c .before .before .before .enum-told2 .given .1, c .before .enum-told5 .given .1, c .equal .ensures)
 
--- src/comparable_range.rt:333:5
 returns-5 : tie.Need-returns-5
 returns-5 c = search needs
 
--- src/comparable_range.rt:333:5
 returns-6 : tie.Need-returns-6
 returns-6 c =
     rw (c .before .before .before .enum-told6 .given .1, c .before .enum-told8 .given .1, c .equal2 .ensures)
 
--- src/comparable_range.rt:333:5
 returns-7 : tie.Need-returns-7
 returns-7 c = search needs
 

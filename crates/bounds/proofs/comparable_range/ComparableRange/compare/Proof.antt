@@ -10,22 +10,18 @@ use Rattle.bounds.proofs.comparable_range.ComparableRange.compare.Lts a
 use Rattle.kinds.proofs.kind.Kind.compare_end.Reads as compare-end-reads
 use Rattle.kinds.proofs.kind.Kind.compare_start.Reads as compare-start-reads
 
--- src/comparable_range.rt:247:13
 compare-start-requires : tie.Need-compare-start-requires
 compare-start-requires c κs = search needs
 
--- src/comparable_range.rt:251:13
 compare-end-requires : tie.Need-compare-end-requires
 compare-end-requires c κs = search needs
 
--- src/comparable_range.rt:251:13
 returns : tie.Need-returns
 returns c =
     let x = c .before .before .before .before .before .before .before .args in
     rw (c .compare-end .ensures)
     (kept-sign (endOrder (bound (x .self .end) (now (x .end-key))) (bound (x .other .end) (now (x .other-end-key)))) ∙ tied (startOrder (bound (x .self .start) (now (x .start-key))) (bound (x .other .start) (now (x .other-start-key)))) (endOrder (bound (x .self .end) (now (x .end-key))) (bound (x .other .end) (now (x .other-end-key)))) (rw (c .before .before .compare-start .ensures) at (c .before .if1 .taken)))
 
--- src/comparable_range.rt:235:5
 returns-2 : tie.Need-returns-2
 returns-2 c =
     let x = c .before .before .before .before .before .before .args in

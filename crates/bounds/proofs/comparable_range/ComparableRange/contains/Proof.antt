@@ -7,20 +7,16 @@ use Rattle.bounds.proofs.comparable_range.ComparableRange.contains.Lts 
 use Rattle.kinds.proofs.kind.Kind.admits_from.Reads as admits-from-reads
 use Rattle.kinds.proofs.kind.Kind.admits_to.Reads as admits-to-reads
 
--- src/comparable_range.rt:384:9
 admits-from-requires : tie.Need-admits-from-requires
 admits-from-requires c κs = search needs
 
--- src/comparable_range.rt:384:46
 admits-to-requires : tie.Need-admits-to-requires
 admits-to-requires c κs = search needs
 
--- src/comparable_range.rt:379:5
 returns : tie.Need-returns
 returns c =
     and-taken (c .before .if1 .taken) (c .before .before .admits-from .ensures) (c .admits-to .ensures)
 
--- src/comparable_range.rt:379:5
 returns-2 : tie.Need-returns-2
 returns-2 c = and-left _ (c .if1 .left) (c .before .admits-from .ensures)
 

@@ -7,51 +7,41 @@ use Rattle.bounds.proofs.comparable_range.ComparableRange.intersect.Sta
 use Rattle.bounds.proofs.comparable_range.ComparableRange.intersect.Tie as tie
 use Rattle.bounds.proofs.comparable_range.ComparableRange.intersect.Reads as reads
 use Rattle.bounds.proofs.comparable_range.ComparableRange.intersect.Lts as lts
-use Rattle.bounds.proofs.comparable_range.Combined.when.Reads as when-reads
+use Rattle.sides.proofs.Combined.when.Reads as when-reads
 use Rattle.bounds.proofs.comparable_range.ComparableRange.new.Reads as new-reads
 use Rattle.bounds.proofs.comparable_range.ComparableRange.non_empty.Reads as non-empty-reads
-use Rattle.bounds.proofs.comparable_range.Side.key.Reads as key-reads
-use Rattle.bounds.proofs.comparable_range.Side.kind.Reads as kind-reads
-use Rattle.bounds.proofs.comparable_range.max_start.Reads as max-start-reads
-use Rattle.bounds.proofs.comparable_range.min_end.Reads as min-end-reads
+use Rattle.sides.proofs.Side.key.Reads as key-reads
+use Rattle.sides.proofs.Side.kind.Reads as kind-reads
+use Rattle.sides.proofs.max_start.Reads as max-start-reads
+use Rattle.sides.proofs.min_end.Reads as min-end-reads
 
--- src/comparable_range.rt:289:13
 max-start-requires : tie.Need-max-start-requires
 max-start-requires c κs = search needs
 
--- src/comparable_range.rt:290:13
 min-end-requires : tie.Need-min-end-requires
 min-end-requires c κs = search needs
 
--- src/comparable_range.rt:291:42
 kind-requires : tie.Need-kind-requires
 kind-requires c κs = search needs
 
--- src/comparable_range.rt:291:60
 kind-requires-2 : tie.Need-kind-requires-2
 kind-requires-2 c κs = search needs
 
--- src/comparable_range.rt:291:13
 new-requires : tie.Need-new-requires
 new-requires c κs = search needs
 
--- src/comparable_range.rt:294:17
 key-requires : tie.Need-key-requires
 key-requires c κs = search needs
 
--- src/comparable_range.rt:295:17
 key-requires-2 : tie.Need-key-requires-2
 key-requires-2 c κs = search needs
 
--- src/comparable_range.rt:293:13
 non-empty-requires : tie.Need-non-empty-requires
 non-empty-requires c κs = search needs
 
--- src/comparable_range.rt:292:9
 when-requires : tie.Need-when-requires
 when-requires c κs = search needs
 
--- src/comparable_range.rt:275:5
 returns : tie.Need-returns
 returns c =
     let x = c .before .before .before .before .before .before .before .before .before .before .before .before .before .args in

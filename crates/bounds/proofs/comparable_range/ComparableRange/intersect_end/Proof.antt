@@ -1,25 +1,22 @@
 use borrow.Author.Needs.{needs}
 use mathlib.Core.Path.{ap, _∙_}
 use denote.Ref.{now}
-use Rattle.bounds.specs.Ranges.{sided}
+use Rattle.sides.specs.Sides.{sided}
 use Rattle.bounds.proofs.comparable_range.ComparableRange.intersect_end.Statement.{
   statement,
 }
 use Rattle.bounds.proofs.comparable_range.ComparableRange.intersect_end.Tie as tie
 use Rattle.bounds.proofs.comparable_range.ComparableRange.intersect_end.Reads as reads
 use Rattle.bounds.proofs.comparable_range.ComparableRange.intersect_end.Lts as lts
-use Rattle.bounds.proofs.comparable_range.Side.key.Reads as key-reads
-use Rattle.bounds.proofs.comparable_range.min_end.Reads as min-end-reads
+use Rattle.sides.proofs.Side.key.Reads as key-reads
+use Rattle.sides.proofs.min_end.Reads as min-end-reads
 
--- src/comparable_range.rt:207:13
 min-end-requires : tie.Need-min-end-requires
 min-end-requires c κs = search needs
 
--- src/comparable_range.rt:208:9
 key-requires : tie.Need-key-requires
 key-requires c κs = search needs
 
--- src/comparable_range.rt:197:5
 returns : tie.Need-returns
 returns c =
     let x = c .before .before .before .before .args in

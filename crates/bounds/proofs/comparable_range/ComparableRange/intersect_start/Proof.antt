@@ -1,25 +1,22 @@
 use borrow.Author.Needs.{needs}
 use mathlib.Core.Path.{ap, _∙_}
 use denote.Ref.{now}
-use Rattle.bounds.specs.Ranges.{sided}
+use Rattle.sides.specs.Sides.{sided}
 use Rattle.bounds.proofs.comparable_range.ComparableRange.intersect_start.Statement.{
   statement,
 }
 use Rattle.bounds.proofs.comparable_range.ComparableRange.intersect_start.Tie as tie
 use Rattle.bounds.proofs.comparable_range.ComparableRange.intersect_start.Reads as reads
 use Rattle.bounds.proofs.comparable_range.ComparableRange.intersect_start.Lts as lts
-use Rattle.bounds.proofs.comparable_range.Side.key.Reads as key-reads
-use Rattle.bounds.proofs.comparable_range.max_start.Reads as max-start-reads
+use Rattle.sides.proofs.Side.key.Reads as key-reads
+use Rattle.sides.proofs.max_start.Reads as max-start-reads
 
--- src/comparable_range.rt:192:13
 max-start-requires : tie.Need-max-start-requires
 max-start-requires c κs = search needs
 
--- src/comparable_range.rt:193:9
 key-requires : tie.Need-key-requires
 key-requires c κs = search needs
 
--- src/comparable_range.rt:182:5
 returns : tie.Need-returns
 returns c =
     let x = c .before .before .before .before .args in

@@ -7,44 +7,36 @@ use Rattle.bounds.proofs.comparable_range.ComparableRange.join.Statemen
 use Rattle.bounds.proofs.comparable_range.ComparableRange.join.Tie as tie
 use Rattle.bounds.proofs.comparable_range.ComparableRange.join.Reads as reads
 use Rattle.bounds.proofs.comparable_range.ComparableRange.join.Lts as lts
-use Rattle.bounds.proofs.comparable_range.Combined.is_given.Reads as is-given-reads
-use Rattle.bounds.proofs.comparable_range.Combined.when.Reads as when-reads
+use Rattle.sides.proofs.Combined.is_given.Reads as is-given-reads
+use Rattle.sides.proofs.Combined.when.Reads as when-reads
 use Rattle.bounds.proofs.comparable_range.ComparableRange.are_adjacent.Reads as are-adjacent-reads
 use Rattle.bounds.proofs.comparable_range.ComparableRange.intersect.Reads as intersect-reads
-use Rattle.bounds.proofs.comparable_range.max_end.Reads as max-end-reads
+use Rattle.sides.proofs.max_end.Reads as max-end-reads
 
--- src/comparable_range.rt:332:13
 max-end-requires : tie.Need-max-end-requires
 max-end-requires c κs = search needs
 
--- src/comparable_range.rt:333:13
 intersect-requires : tie.Need-intersect-requires
 intersect-requires c κs = search needs
 
--- src/comparable_range.rt:334:12
 is-given-requires : tie.Need-is-given-requires
 is-given-requires c κs = search needs
 
--- src/comparable_range.rt:335:13
 when-requires : tie.Need-when-requires
 when-requires c κs = search needs
 
--- src/comparable_range.rt:335:13
 returns : tie.Need-returns
 returns c =
     let x = c .before .before .before .before .before .before .before .before .before .args in
     c .when .ensures
     ∙ joined (rangeOf (x .self) (now (x .start-key)) (now (x .end-key))) (rangeOf (x .other) (now (x .other-start-key)) (now (x .other-end-key))) (c .before .before .before .before .max-end .ensures) (c .before .before .before .intersect .ensures) (sym (c .before .before .is-given .ensures) ∙ c .before .if1 .taken) refl
 
--- src/comparable_range.rt:338:13
 are-adjacent-requires : tie.Need-are-adjacent-requires
 are-adjacent-requires c κs = search needs
 
--- src/comparable_range.rt:337:9
 when-requires-2 : tie.Need-when-requires-2
 when-requires-2 c κs = search needs
 
--- src/comparable_range.rt:320:5
 returns-2 : tie.Need-returns-2
 returns-2 c =
     let x = c .before .before .before .before .before .before .before .before .before .before .args in

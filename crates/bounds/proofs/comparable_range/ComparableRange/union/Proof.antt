@@ -2,40 +2,35 @@ use borrow.Author.Needs.{needs}
 use mathlib.Core.Path.{ap, _∙_}
 use denote.Ref.{now}
 use Rattle.keys.proofs.Signs.{on-lt}
-use Rattle.bounds.specs.Ranges.{rangeOf, rangeOrder, swapSides}
+use Rattle.bounds.specs.Ranges.{rangeOf, rangeOrder}
+use Rattle.sides.specs.Sides.{swapSides}
 use Rattle.bounds.proofs.Combining.{united}
 use Rattle.bounds.proofs.comparable_range.ComparableRange.union.Statement.{statement}
 use Rattle.bounds.proofs.comparable_range.ComparableRange.union.Tie as tie
 use Rattle.bounds.proofs.comparable_range.ComparableRange.union.Reads as reads
 use Rattle.bounds.proofs.comparable_range.ComparableRange.union.Lts as lts
-use Rattle.bounds.proofs.comparable_range.Combined.swapped.Reads as swapped-reads
+use Rattle.sides.proofs.Combined.swapped.Reads as swapped-reads
 use Rattle.bounds.proofs.comparable_range.ComparableRange.compare.Reads as compare-reads
 use Rattle.bounds.proofs.comparable_range.ComparableRange.join.Reads as join-reads
 
--- src/comparable_range.rt:312:12
 compare-requires : tie.Need-compare-requires
 compare-requires c κs = search needs
 
--- src/comparable_range.rt:313:13
 join-requires : tie.Need-join-requires
 join-requires c κs = search needs
 
--- src/comparable_range.rt:313:13
 returns : tie.Need-returns
 returns c =
     let x = c .before .before .before .before .before .before .before .args in
     let o = rangeOrder (rangeOf (x .self) (now (x .start-key)) (now (x .end-key))) (rangeOf (x .other) (now (x .other-start-key)) (now (x .other-end-key))) in
     c .join .ensures ∙ united (rangeOf (x .self) (now (x .start-key)) (now (x .end-key))) (rangeOf (x .other) (now (x .other-start-key)) (now (x .other-end-key))) (on-lt o (c .before .before .compare .ensures) (c .before .if1 .taken))
 
--- src/comparable_range.rt:315:13
 join-requires-2 : tie.Need-join-requires-2
 join-requires-2 c κs = search needs
 
--- src/comparable_range.rt:316:9
 swapped-requires : tie.Need-swapped-requires
 swapped-requires c κs = search needs
 
--- src/comparable_range.rt:302:5
 returns-2 : tie.Need-returns-2
 returns-2 c =
     let x = c .before .before .before .before .before .before .before .before .args in

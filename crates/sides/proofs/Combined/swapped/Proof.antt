@@ -1,31 +1,25 @@
 use borrow.Author.Needs.{needs}
-use Rattle.bounds.proofs.comparable_range.Combined.swapped.Statement.{statement}
-use Rattle.bounds.proofs.comparable_range.Combined.swapped.Tie as tie
-use Rattle.bounds.proofs.comparable_range.Combined.swapped.Reads as reads
-use Rattle.bounds.proofs.comparable_range.Combined.swapped.Lts as lts
-use Rattle.bounds.proofs.comparable_range.Side.other.Reads as other-reads
+use Rattle.sides.proofs.Combined.swapped.Statement.{statement}
+use Rattle.sides.proofs.Combined.swapped.Tie as tie
+use Rattle.sides.proofs.Combined.swapped.Reads as reads
+use Rattle.sides.proofs.Combined.swapped.Lts as lts
+use Rattle.sides.proofs.Side.other.Reads as other-reads
 
--- src/comparable_range.rt:207:28
 enum-known-self : tie.Need-enum-known-self
 enum-known-self c = search needs
 
--- src/comparable_range.rt:208:24
 other-requires : tie.Need-other-requires
 other-requires c κs = search needs
 
--- src/comparable_range.rt:209:22
 other-requires-2 : tie.Need-other-requires-2
 other-requires-2 c κs = search needs
 
--- src/comparable_range.rt:211:34
 enum-told : tie.Need-enum-told
 enum-told c = search needs
 
--- src/comparable_range.rt:203:5
 returns : tie.Need-returns
 returns c = rw (c .before .before .before .self .given .1, c .before .other .ensures, c .other2 .ensures)
 
--- src/comparable_range.rt:203:5
 returns-2 : tie.Need-returns-2
 returns-2 c = search needs
 
