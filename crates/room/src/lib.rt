@@ -79,7 +79,7 @@ fn entries_end(room: &[u8], at: usize, n: usize) -> Walked
     let mut t = Tally::start(at);
     let mut left = n;
     while 0 < left {
-        match walk::record::entry_end(room, t.end) {
+        match record_walk::record::entry_end(room, t.end) {
             Walked::Ends(u) => {
                 t = t.joined(u);
                 left -= 1;
@@ -112,7 +112,7 @@ fn active_end(room: &[u8], at: usize, n: usize) -> Walked
     let mut p = at;
     let mut left = n;
     while 0 < left {
-        match walk::record::txn_end(room, t.end) {
+        match record_walk::record::txn_end(room, t.end) {
             Walked::Ends(u) => {
                 if !id_follows(room, p, t.end) {
                     return Walked::Cut;

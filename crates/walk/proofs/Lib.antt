@@ -1,4 +1,2 @@
 pub mod GoingLaws
 pub mod SetLaws
-pub mod RangeLaws
-pub mod EntryLaws

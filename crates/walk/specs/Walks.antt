@@ -4,19 +4,13 @@ use mathlib.Core.Path.{_≡_}
 use mathlib.Core.Bool.{Bool, _||_}
 use mathlib.Core.List.{List}
 use lib.Dec.{eqb}
-use lib.ListN.{length, take, drop}
-use Rattle.keys.specs.Limit.{keyLimit}
-use Rattle.kinds.specs.Bounds.{bound}
-use Rattle.kinds.specs.declared.kind.Kind.{Kind}
-use Rattle.made.specs.Making.{keyOf}
+use lib.ListN.{take, drop}
 use Rattle.codec.specs.Codec.{Codec, cut}
-use Rattle.layout.specs.Keys.{boundForm, below}
+use Rattle.layout.specs.Keys.{below}
 use Rattle.layout.specs.Places.{Part}
 use Rattle.walk.specs.declared.tally.Tally.{Tally}
 use Rattle.walk.specs.declared.tally.Walked.{Walked}
 use Rattle.walk.specs.declared.tally.Walked.the-variants.{Ends, Cut}
-use Rattle.walk.specs.declared.range.BoundAt.{BoundAt}
-use Rattle.walk.specs.declared.range.BoundAt.the-variants as b
 use Rattle.walk.specs.Counts.{Counted}
 
 -- a record stands from at up to the tally's end, and the tally is what it counts; a mark or a key byte takes a byte at least
@@ -47,17 +41,3 @@ keyFollows s p e next = eqb p e || below (between s (p + 2) e) (between s (e + 2
 -- p is e, or a record of k bytes at least stands from p up to e
 pub record Apart (k p e : ℕ) : Type 0 where
   pub far : (p ≡ e → ⊥) → p + k ≤ e
-
--- a bound stands from at up to e, its key behind its tag and its length
-pub record BoundEnds (s : List ℕ) (at : ℕ) (kind : Kind) (e : ℕ) : Type 0 where
-  pub part : Part (boundForm keyLimit) s at (bound kind (between s (at + 3) e)) e
-  pub far : at + 3 ≤ e
-  pub size : length (keyOf (bound kind (between s (at + 3) e))) ≡ e - (at + 3)
-
-abbrev pub asBound : Kind → Walked → BoundAt
-asBound kind (Ends t) = b.Found kind (t .end)
-asBound kind Cut = b.NoBound
-
-abbrev pub BoundIs : List ℕ → ℕ → BoundAt → Type 0
-BoundIs s at (b.Found kind e) = BoundEnds s at kind e
-BoundIs s at b.NoBound = Missing (boundForm keyLimit) s at

@@ -1,5 +1,3 @@
-// The validating walk over sets, ranges, entries and transactions that are kept in a lent run of bytes.
-pub mod range;
-pub mod record;
+// The validating walk over sets of keys that are kept in a lent run of bytes, and what it counts.
 pub mod set;
 pub mod tally;

@@ -6,7 +6,7 @@ use denote.Ref.{now}
 use Rattle.walk.specs.Walks.{Got}
 use Rattle.walk.specs.Counts.{aTxn}
 use Rattle.walk.proofs.GoingLaws.{Ordered, ascending, ordered-start, ordered-apart, ordered-next, ordered-unfit, ordered-cut, ordered-end, going-join}
-use Rattle.walk.proofs.EntryLaws.{idOf, idAt, txn-labelled}
+use Rattle.record_walk.proofs.EntryLaws.{idOf, idAt, txn-labelled}
 use Rattle.room.proofs.active_end.Statement.{statement}
 use Rattle.room.proofs.active_end.Tie as tie
 

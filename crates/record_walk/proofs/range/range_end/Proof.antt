@@ -2,10 +2,10 @@ use mathlib.Core.Path.{sym, _∙_}
 use native.Mathlib.Omega.{arith}
 use borrow.Author.Needs.{needs}
 use denote.Ref.{now}
-use Rattle.walk.specs.Walks.{BoundEnds}
-use Rattle.walk.proofs.RangeLaws.{no-start, no-end, judged, range-empty, range-got}
-use Rattle.walk.proofs.range.range_end.Statement.{statement}
-use Rattle.walk.proofs.range.range_end.Tie as tie
+use Rattle.record_walk.specs.BoundWalks.{BoundEnds}
+use Rattle.record_walk.proofs.RangeLaws.{no-start, no-end, judged, range-empty, range-got}
+use Rattle.record_walk.proofs.range.range_end.Statement.{statement}
+use Rattle.record_walk.proofs.range.range_end.Tie as tie
 
 -- the bounds that were read
 first : (c : tie.After-start) → BoundEnds (now (c .before .before .before .before .args .room)) (c .before .before .before .before .args .at) (c .start .given .0 .0) (c .start .given .0 .1 .0)

@@ -1,6 +1,6 @@
 use borrow.Author.Needs.{needs}
-use Rattle.walk.proofs.range.bound_of.Statement.{statement}
-use Rattle.walk.proofs.range.bound_of.Tie as tie
+use Rattle.record_walk.proofs.range.bound_of.Statement.{statement}
+use Rattle.record_walk.proofs.range.bound_of.Tie as tie
 
 enum-known-key : tie.Need-enum-known-key
 enum-known-key c = search needs

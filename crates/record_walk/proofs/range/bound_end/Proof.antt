@@ -2,9 +2,9 @@ use mathlib.Core.Path.{refl}
 use native.Mathlib.Omega.{arith}
 use borrow.Author.Needs.{needs}
 use denote.Ref.{now}
-use Rattle.walk.proofs.RangeLaws.{bound-short, tag-unknown, unbounded-ends, included-ends, excluded-ends}
-use Rattle.walk.proofs.range.bound_end.Statement.{statement}
-use Rattle.walk.proofs.range.bound_end.Tie as tie
+use Rattle.record_walk.proofs.RangeLaws.{bound-short, tag-unknown, unbounded-ends, included-ends, excluded-ends}
+use Rattle.record_walk.proofs.range.bound_end.Statement.{statement}
+use Rattle.record_walk.proofs.range.bound_end.Tie as tie
 
 sub-if1 : tie.Need-sub-if1
 sub-if1 c = search needs

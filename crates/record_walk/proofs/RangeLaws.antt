@@ -19,12 +19,13 @@ use Rattle.codec.specs.Formats.{number, bind, only, via}
 use Rattle.codec.specs.Places.{Stands}
 use Rattle.codec.proofs.NumberLaws.{stands-number}
 use Rattle.layout.specs.Keys.{boundForm, pairForm, rangeForm, rangesForm, anyOrder}
 use Rattle.walk.specs.declared.tally.Tally.{Tally}
 use Rattle.walk.specs.declared.tally.Walked.{Walked}
 use Rattle.walk.specs.declared.tally.Walked.the-variants.{Ends, Cut}
 use Rattle.walk.specs.Counts.{aKey, aRange, someRanges, runOf}
-use Rattle.walk.specs.Walks.{Got, Missing, Walks, between, BoundEnds, BoundIs, asBound}
+use Rattle.walk.specs.Walks.{Got, Missing, Walks, between}
+use Rattle.record_walk.specs.BoundWalks.{BoundEnds, BoundIs, asBound}
 use Rattle.walk.proofs.SetLaws.{number-short, key-size, key-labelled, list-short, list-ends}
 
 -- ---- bounds
 

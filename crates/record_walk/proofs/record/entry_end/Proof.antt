@@ -1,7 +1,7 @@
 use borrow.Author.Needs.{needs}
-use Rattle.walk.proofs.EntryLaws.{entry-short, entry-cut, entry-got}
-use Rattle.walk.proofs.record.entry_end.Statement.{statement}
-use Rattle.walk.proofs.record.entry_end.Tie as tie
+use Rattle.record_walk.proofs.EntryLaws.{entry-short, entry-cut, entry-got}
+use Rattle.record_walk.proofs.record.entry_end.Statement.{statement}
+use Rattle.record_walk.proofs.record.entry_end.Tie as tie
 
 sub-if1 : tie.Need-sub-if1
 sub-if1 c = search needs

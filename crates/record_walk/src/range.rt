@@ -2,16 +2,17 @@ ghost use mathlib.Core.Path.{_≡_};
 ghost use Prim.Native.Nat.{_+_, _≤_};
 ghost use lib.ListN.{length};
 ghost use Rattle.layout.specs.Keys.{anyOrder};
 ghost use Rattle.walk.specs.Counts.{aRange, someRanges, runOf};
-ghost use Rattle.walk.specs.Walks.{Walks, BoundIs, asBound};
-use crate::tally::Tally;
-use crate::tally::Walked;
+ghost use Rattle.walk.specs.Walks.{Walks};
+ghost use Rattle.record_walk.specs.BoundWalks.{BoundIs, asBound};
 use bounds::comparable_range::ComparableRange;
 use fields::EXCLUDED;
 use fields::INCLUDED;
 use fields::UNBOUNDED;
 use keys::KEY_LIMIT;
 use kinds::kind::Kind;
+use walk::tally::Tally;
+use walk::tally::Walked;
 
 // The bound at a place: its kind, and where it ends.
 enum BoundAt {
@@ -38,13 +39,13 @@ fn bound_end(room: &[u8], at: usize) -> BoundAt
     }
     let tag = room[at];
     if tag == UNBOUNDED {
-        return bound_of(Kind::Unbounded, crate::set::key_end(room, at + 1, 0));
+        return bound_of(Kind::Unbounded, walk::set::key_end(room, at + 1, 0));
     }
     if tag == INCLUDED {
-        return bound_of(Kind::Included, crate::set::key_end(room, at + 1, KEY_LIMIT));
+        return bound_of(Kind::Included, walk::set::key_end(room, at + 1, KEY_LIMIT));
     }
     if tag == EXCLUDED {
-        return bound_of(Kind::Excluded, crate::set::key_end(room, at + 1, KEY_LIMIT));
+        return bound_of(Kind::Excluded, walk::set::key_end(room, at + 1, KEY_LIMIT));
     }
     BoundAt::NoBound
 }

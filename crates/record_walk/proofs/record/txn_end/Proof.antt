@@ -2,12 +2,12 @@ use Prim.Native.Nat.{_+_}
 use native.Mathlib.Omega.{arith}
 use borrow.Author.Needs.{needs}
 use denote.Ref.{now}
 use Rattle.walk.specs.Walks.{Got}
 use Rattle.walk.specs.Counts.{aSet, someRanges}
-use Rattle.walk.proofs.EntryLaws.{txn-short, no-writes, no-reads, no-ranges, join-ranges, txn-got}
+use Rattle.record_walk.proofs.EntryLaws.{txn-short, no-writes, no-reads, no-ranges, join-ranges, txn-got}
 use Rattle.walk.proofs.GoingLaws.{can-join}
-use Rattle.walk.proofs.record.txn_end.Statement.{statement}
-use Rattle.walk.proofs.record.txn_end.Tie as tie
+use Rattle.record_walk.proofs.record.txn_end.Statement.{statement}
+use Rattle.record_walk.proofs.record.txn_end.Tie as tie
 
 -- the sets and the ranges that were read
 written : (c : tie.After-w) → Got aSet (now (c .before .before .before .before .before .before .args .room)) (c .before .before .before .before .before .before .args .at + 24) (c .w .given .0 .0)

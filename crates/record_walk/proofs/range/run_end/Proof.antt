@@ -2,11 +2,11 @@ use native.Mathlib.Omega.{arith}
 use borrow.Author.Needs.{needs}
 use denote.Ref.{now}
 use Rattle.layout.specs.Keys.{anyOrder}
 use Rattle.walk.specs.Walks.{Got}
 use Rattle.walk.specs.Counts.{aRange}
 use Rattle.walk.proofs.GoingLaws.{Loose, loose-start, loose-next, loose-cut, loose-end, going-join}
-use Rattle.walk.proofs.range.run_end.Statement.{statement}
-use Rattle.walk.proofs.range.run_end.Tie as tie
+use Rattle.record_walk.proofs.range.run_end.Statement.{statement}
+use Rattle.record_walk.proofs.range.run_end.Tie as tie
 
 abbrev Inv-loop : tie.InvT-loop
 Inv-loop room at n t₀ left₀ t left = Loose aRange room at n t left

@@ -1,7 +1,7 @@
 use borrow.Author.Needs.{needs}
-use Rattle.walk.proofs.RangeLaws.{ranges-short, ranges-ends}
-use Rattle.walk.proofs.range.ranges_end.Statement.{statement}
-use Rattle.walk.proofs.range.ranges_end.Tie as tie
+use Rattle.record_walk.proofs.RangeLaws.{ranges-short, ranges-ends}
+use Rattle.record_walk.proofs.range.ranges_end.Statement.{statement}
+use Rattle.record_walk.proofs.range.ranges_end.Tie as tie
 
 sub-if1 : tie.Need-sub-if1
 sub-if1 c = search needs

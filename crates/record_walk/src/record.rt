@@ -1,9 +1,9 @@
 ghost use Prim.Native.Nat.{_+_, _≤_};
 ghost use lib.ListN.{length};
 ghost use Rattle.walk.specs.Counts.{anEntry, aTxn};
 ghost use Rattle.walk.specs.Walks.{Walks};
-use crate::tally::Tally;
-use crate::tally::Walked;
+use walk::tally::Tally;
+use walk::tally::Walked;
 
 // Where the entry at a place ends.
 pub fn entry_end(room: &[u8], at: usize) -> Walked
@@ -14,7 +14,7 @@ pub fn entry_end(room: &[u8], at: usize) -> Walked
         return Walked::Cut;
     }
     let seq = codec::numbers::read_eight(room, at);
-    match crate::set::set_end(room, at + 8) {
+    match walk::set::set_end(room, at + 8) {
         Walked::Ends(t) => Walked::Ends(Tally {
             end: t.end,
             marks: t.marks,
@@ -34,9 +34,9 @@ pub fn txn_end(room: &[u8], at: usize) -> Walked
         return Walked::Cut;
     }
     let start = codec::numbers::read_eight(room, at + 16);
-    match crate::set::set_end(room, at + 24) {
+    match walk::set::set_end(room, at + 24) {
         Walked::Cut => Walked::Cut,
-        Walked::Ends(w) => match crate::set::set_end(room, w.end) {
+        Walked::Ends(w) => match walk::set::set_end(room, w.end) {
             Walked::Cut => Walked::Cut,
             Walked::Ends(r) => match crate::range::ranges_end(room, r.end) {
                 Walked::Cut => Walked::Cut,
