@@ -17,6 +17,7 @@ use codec::numbers::write_two;
 use layout::ACTIVE_COUNT;
 use layout::ENTRY_COUNT;
 use layout::HEAD;
+use layout::ID;
 use layout::LAST;
 use layout::STAMP;
 use moves::copy_in;
@@ -51,7 +52,7 @@ pub fn put_txn(room: &mut [u8], used: usize, at: usize, id: &[u8], start: u64)
 {
     let mut new = [0u8; 30];
     copy_in(&mut new, 0, id);
-    write_eight(&mut new, 16, start);
+    write_eight(&mut new, ID, start);
     splice(room, used, at, 0, &new);
 }
 

@@ -2,6 +2,7 @@
 use crate::skips::txn_past;
 use codec::numbers::read_eight;
 use keys::compare;
+use layout::ID;
 ghost use mathlib.Core.Path.{_≡_};
 ghost use Prim.Native.Nat.{min};
 ghost use Rattle.machine.specs.State.{base};
@@ -23,7 +24,7 @@ pub fn find_txn(room: &[u8], at: usize, n: usize, id: &[u8]) -> Place
     let mut e = at;
     let mut left = n;
     while 0 < left {
-        let id_end = e + 16;
+        let id_end = e + ID;
         let sign = compare(id, &room[e..id_end]);
         if sign < 0 {
             return Place::Before(e);
@@ -53,7 +54,7 @@ pub fn least_start(room: &[u8], at: usize, n: usize, most: u64) -> u64
     let mut left = n;
     let mut low = most;
     while 0 < left {
-        low = lesser(low, read_eight(room, e + 16));
+        low = lesser(low, read_eight(room, e + ID));
         e = txn_past(room, e);
         left -= 1;
     }

@@ -1,5 +1,6 @@
 // Where the record at a place ends.
 use codec::numbers::read_two;
+use layout::WRITES;
 ghost use Prim.Native.Nat.{_+_};
 ghost use Rattle.machine.specs.State.{base};
 ghost use Rattle.layout.specs.Keys.{keyForm, setForm, boundForm, rangeForm, rangesForm};
@@ -64,5 +65,5 @@ pub fn txn_past(room: &[u8], at: usize) -> usize
     requires { ⌜ Here (txnForm (base .key)) (now room) at ⌝ }
     ensures { λ r. ⌜ Ends (txnForm (base .key)) (now (room .entry)) at r ⌝ }
 {
-    ranges_past(room, set_past(room, set_past(room, at + 24)))
+    ranges_past(room, set_past(room, set_past(room, at + WRITES)))
 }

@@ -2,6 +2,8 @@ ghost use Prim.Native.Nat.{_+_, _≤_};
 ghost use lib.ListN.{length};
 ghost use Rattle.walk.specs.Counts.{anEntry, aTxn};
 ghost use Rattle.walk.specs.Walks.{Walks};
+use layout::ID;
+use layout::WRITES;
 use walk::tally::Tally;
 use walk::tally::Walked;
 
@@ -30,11 +32,11 @@ pub fn txn_end(room: &[u8], at: usize) -> Walked
     requires { ⌜ at ≤ length (now room) ⌝ }
     ensures { λ r. ⌜ Walks aTxn (now (room .entry)) at r ⌝ }
 {
-    if room.len() - at < 24 {
+    if room.len() - at < WRITES {
         return Walked::Cut;
     }
-    let start = codec::numbers::read_eight(room, at + 16);
-    match walk::set::set_end(room, at + 24) {
+    let start = codec::numbers::read_eight(room, at + ID);
+    match walk::set::set_end(room, at + WRITES) {
         Walked::Cut => Walked::Cut,
         Walked::Ends(w) => match walk::set::set_end(room, w.end) {
             Walked::Cut => Walked::Cut,

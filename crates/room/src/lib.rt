@@ -15,6 +15,7 @@ use crate::ceilings::SIZE;
 use layout::ACTIVE_COUNT;
 use layout::ENTRY_COUNT;
 use layout::HEAD;
+use layout::ID;
 use layout::LAST;
 use layout::STAMP;
 use walk::tally::Tally;
@@ -98,8 +99,8 @@ fn id_follows(room: &[u8], p: usize, e: usize) -> bool
     if p == e {
         return true;
     }
-    let a = p + 16;
-    let b = e + 16;
+    let a = p + ID;
+    let b = e + ID;
     keys::compare(&room[p..a], &room[e..b]) < 0
 }
 

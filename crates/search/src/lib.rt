@@ -6,6 +6,7 @@ ghost use Rattle.search.specs.Cursors.{Verdict};
 use crate::cursor::Cursor;
 use crate::marks::Marks;
 use codec::numbers::read_eight;
+use layout::ID;
 use places::skips::entry_past;
 use places::skips::key_past;
 
@@ -19,7 +20,7 @@ pub fn conflicts(room: &[u8], at: usize, entries: usize, txn: usize) -> bool
     requires { ⌜ Here (txnForm (base .key)) (now room) txn ⌝ }
     ensures { λ r. ⌜ Verdict (now (room .entry)) at entries txn r ⌝ }
 {
-    let start = read_eight(room, txn + 16);
+    let start = read_eight(room, txn + ID);
     let marks = Marks::of(room, txn);
     let mut found = false;
     let mut e = Cursor::new(at, entries);

@@ -8,6 +8,7 @@ ghost use Rattle.search.specs.Cursors.{marksLeft, Stays, Tracked, Nexts,
 use crate::cursor::Cursor;
 use crate::mark::in_range;
 use crate::mark::same_key;
+use layout::WRITES;
 use places::skips::key_past;
 use places::skips::range_past;
 use places::skips::set_past;
@@ -25,7 +26,7 @@ impl Marks {
         requires { ⌜ Here (txnForm (base .key)) (now room) txn ⌝ }
         ensures { λ r. ⌜ Tracked (now (room .entry)) txn r ⌝ }
     {
-        let at = txn + 24;
+        let at = txn + WRITES;
         let reads_at = set_past(room, at);
         let ranges_at = set_past(room, reads_at);
         let writes = Cursor::of_list(room, at);
