@@ -1,7 +1,7 @@
 //! The steps that a fuzzer's bytes stand for: short forms of well-formed arguments, and an escape to raw bytes for each.
 
-use crate::call::{field, id_of, list_of, Call};
 use crate::input::Input;
+use judge::call::{field, id_of, list_of, Call};
 
 /// Lengths of long keys, about the key limit and about what fills a room.
 const LONG: [usize; 8] = [29, 31, 32, 255, 256, 511, 512, 513];

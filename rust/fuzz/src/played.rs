@@ -1,12 +1,12 @@
 //! A fuzzer's bytes played on a room: each call's answer and the room after it are compared with the judge's.
 
-use crate::both::{Both, Statuses};
-use crate::call::Call;
 use crate::decoded::{step, Step};
 use crate::input::Input;
-use crate::judge::Judge;
-use crate::met::Met;
-use crate::reader::{read, SIZE};
+use judge::both::{Both, Statuses};
+use judge::call::Call;
+use judge::met::Met;
+use judge::reader::{read, SIZE};
+use judge::Judge;
 use std::slice;
 use stranvek::numbers::NO_STATE;
 

@@ -1,8 +1,8 @@
 //! Random calls with many ids and many keys, so that the ceilings are met.
 
-use crate::call::{field, id_of, list_of, Call};
-use crate::draws::sequence;
 use differential::random::Random;
+use judge::call::{field, id_of, list_of, Call};
+use judge::draws::sequence;
 
 /// With short keys the marks run out first.
 pub fn short_keys(random: &mut Random, last: u64) -> Call {

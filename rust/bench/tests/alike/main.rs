@@ -1,24 +1,11 @@
 //! The port, the original and the simple manager give the same answers: each call goes to all three.
 
-// The tests of the room use more of it.
-#[allow(dead_code)]
-#[path = "../../../differential/tests/room/call.rs"]
-mod call;
-#[path = "../../../differential/tests/room/draws.rs"]
-mod draws;
-#[path = "../../../differential/tests/room/forms.rs"]
-mod forms;
-#[path = "../../../differential/tests/room/judge.rs"]
-mod judge;
-#[path = "../../../differential/tests/room/totals.rs"]
-mod totals;
-
 mod crowded;
 
 use bench::manager::simple::Simple;
-use call::Call;
 use differential::random::Random;
-use judge::Judge;
+use judge::call::{self, Call};
+use judge::{draws, totals, Judge};
 use stranvek::boundary::Answer;
 use stranvek::numbers::{DONE, NO_ROOM_LEFT};
 

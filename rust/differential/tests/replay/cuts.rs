@@ -3,12 +3,13 @@
 use crate::compared::Compared;
 use crate::expected::expected;
 use crate::program::Waiting;
-use crate::records::{places, random_script};
 use crate::whole::P;
 use differential::random::Random;
+use judge::draws;
+use judge::records::places;
 
 fn longer() -> Vec<u8> {
-    random_script(&mut Random::seeded(42), 40)
+    draws::script(&mut Random::seeded(42), 40)
 }
 
 #[test]

@@ -1,9 +1,10 @@
 //! Scripts that nobody meant.
 
 use crate::compared::Compared;
-use crate::records::{places, random_script};
 use crate::whole::P;
 use differential::random::Random;
+use judge::draws;
+use judge::records::places;
 
 #[test]
 fn random_bytes() {
@@ -44,7 +45,7 @@ fn one_byte_of_longer_scripts_changed() {
     let mut random = Random::seeded(47);
     let mut compared = Compared::default();
     for _ in 0..1_000 {
-        let mut script = random_script(&mut random, 60);
+        let mut script = draws::script(&mut random, 60);
         let at = random.below(script.len());
         script[at] ^= 1 + random.below(255) as u8;
         compared.script(&script);

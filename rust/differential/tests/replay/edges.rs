@@ -1,8 +1,8 @@
 //! Document 01's edges that are not proved, through the program: the lines are written from the document, not by the judge.
 
-use crate::call::{field, id_of, list_of, Call};
 use crate::program::replay;
-use crate::records::record;
+use judge::call::{field, id_of, list_of, Call};
+use judge::records::record;
 
 /// Calls and the line due for each.
 #[derive(Default)]

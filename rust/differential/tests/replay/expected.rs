@@ -1,9 +1,8 @@
 //! What document 01 says that the program writes.
 
-use crate::judge::Judge;
-use crate::records::{call_of, next, Next};
+use judge::records::{next, Next};
+use judge::Judge;
 use stranvek::boundary::Answer;
-use stranvek::numbers::BADLY_FORMED;
 
 #[derive(Clone, Debug, Default, PartialEq, Eq)]
 pub struct Expected {
@@ -22,9 +21,7 @@ pub fn expected(script: &[u8]) -> Expected {
             Next::End => return expected,
             Next::Stop => return Expected { stop: Some(at), ..expected },
             Next::Record { tag, payload } => {
-                let refused = Answer { status: BADLY_FORMED, value: 0 };
-                let answer = call_of(tag, payload).map_or(refused, |call| judge.answer(&call));
-                expected.answers.push(answer);
+                expected.answers.push(judge.answer_record(tag, payload));
                 at += 3 + payload.len();
             }
         }

@@ -1,10 +1,10 @@
 //! Scripts that fill the room.
 
-use crate::call::{list_of, Call};
 use crate::compared::Compared;
-use crate::draws;
-use crate::records::record;
 use differential::random::Random;
+use judge::call::{list_of, Call};
+use judge::draws;
+use judge::records::record;
 
 /// A call that asks for much: many ids, long lists, long keys.
 fn large(random: &mut Random, last: u64) -> Call {

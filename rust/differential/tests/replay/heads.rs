@@ -1,9 +1,9 @@
 //! Heads and payloads at their limits, and payloads that are no call.
 
-use crate::call::{field, id_of, list_of};
 use crate::compared::Compared;
 use crate::program::replay;
-use crate::records::PAYLOAD_LIMIT;
+use judge::call::{field, id_of, list_of};
+use judge::records::PAYLOAD_LIMIT;
 
 /// A head that says a length, and what stands after it.
 fn headed(tag: u8, length: u16, after: &[u8]) -> Vec<u8> {

@@ -1,11 +1,12 @@
 //! Scripts longer than the program's buffer, whose records straddle its reads.
 
-use crate::call::{id_of, list_of, Call};
 use crate::compared::Compared;
 use crate::expected::expected;
 use crate::program::{replay, replay_file, replay_pieces};
-use crate::records::{random_script, record, PAYLOAD_LIMIT};
 use differential::random::Random;
+use judge::call::{id_of, list_of, Call};
+use judge::draws;
+use judge::records::{record, PAYLOAD_LIMIT};
 
 /// What the program can hold, and the most that it holds when it reads on: a longer datagram would be cut.
 const BUFFER: usize = 131_072;
@@ -15,7 +16,7 @@ const HELD: usize = 3 + PAYLOAD_LIMIT - 1;
 fn long_script(random: &mut Random, length: usize) -> Vec<u8> {
     let mut script = Vec::new();
     while script.len() < length {
-        script.extend(random_script(random, 8));
+        script.extend(draws::script(random, 8));
         let count = random.below(6_000);
         let keys: Vec<[u8; 2]> = (0..count).map(|_| [0x6b, random.pick(b"abcdefgh")]).collect();
         let id = id_of(random.pick(&[0, 1]));

@@ -3,9 +3,10 @@
 use crate::compared::Compared;
 use crate::expected::expected;
 use crate::program::Waiting;
-use crate::records::{places, random_script};
 use crate::whole::P;
 use differential::random::Random;
+use judge::draws;
+use judge::records::places;
 
 #[test]
 fn pieces_of_every_size() {
@@ -16,7 +17,7 @@ fn pieces_of_every_size() {
         compared.pieces(&P[..P.len() - 1], &[length]);
     }
     for _ in 0..40 {
-        let script = random_script(&mut random, 60);
+        let script = draws::script(&mut random, 60);
         let some: Vec<usize> = (0..script.len()).map(|_| 1 + random.below(50)).collect();
         for lengths in [&[1][..], &[7], &some] {
             compared.pieces(&script, lengths);
@@ -46,7 +47,7 @@ fn pieces_of_scripts_that_stop() {
 
 #[test]
 fn each_line_comes_when_its_record_is_whole() {
-    let script = random_script(&mut Random::seeded(45), 300);
+    let script = draws::script(&mut Random::seeded(45), 300);
     let lines = expected(&script).lines();
     let mut waiting = Waiting::start();
     for (at, line) in places(&script).windows(2).zip(&lines) {

@@ -2,8 +2,8 @@
 
 use crate::compared::Compared;
 use crate::program::replay;
-use crate::records::random_script;
 use differential::random::Random;
+use judge::draws;
 
 pub const P: &[u8] = include_bytes!("../../../../crates/replay/stdin");
 
@@ -44,7 +44,7 @@ fn random_scripts() {
     let mut random = Random::seeded(41);
     let mut compared = Compared::default();
     for _ in 0..400 {
-        compared.script(&random_script(&mut random, 100));
+        compared.script(&draws::script(&mut random, 100));
     }
     println!("{}", compared);
     assert_eq!((compared.scripts, compared.lines, compared.stops), (400, 40_000, 0));

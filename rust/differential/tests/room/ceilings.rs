@@ -1,11 +1,11 @@
 //! Runs near the ceilings: status 6 comes exactly when the machine's totals say, and what is freed can be used again.
 
-use crate::both::Both;
-use crate::call::{field, list_of, Call};
-use crate::draws;
-use crate::reader::SIZE;
-use crate::totals::{totals, ACTIVE_LIMIT, BYTE_LIMIT, ENTRY_LIMIT, KEY_LIMIT, MARK_LIMIT};
 use differential::random::Random;
+use judge::both::Both;
+use judge::call::{field, list_of, Call};
+use judge::draws;
+use judge::reader::SIZE;
+use judge::totals::{totals, ACTIVE_LIMIT, BYTE_LIMIT, ENTRY_LIMIT, KEY_LIMIT, MARK_LIMIT};
 use stranvek::numbers::{ALREADY_ACTIVE, DONE, KEY_TOO_LONG, NO_ROOM_LEFT};
 
 fn id(n: usize) -> Vec<u8> {

@@ -1,10 +1,10 @@
 //! Rooms that record a state at a ceiling are served, and refused with 7 one step beyond it.
 
-use crate::met::{calls, Met};
-use crate::reader::SIZE;
-use crate::totals::{totals, ACTIVE_LIMIT, BYTE_LIMIT, ENTRY_LIMIT, KEY_LIMIT, MARK_LIMIT};
-use crate::writer::{room_of, written};
 use bytes::Bytes;
+use judge::met::{calls, Met};
+use judge::reader::SIZE;
+use judge::totals::{totals, ACTIVE_LIMIT, BYTE_LIMIT, ENTRY_LIMIT, KEY_LIMIT, MARK_LIMIT};
+use judge::writer::{room_of, written};
 use slatedb_oracle::transaction_manager::{Active, Entry, KeyRange, State};
 use std::ops::Bound::{Excluded, Included, Unbounded};
 

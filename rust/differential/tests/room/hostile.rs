@@ -1,13 +1,13 @@
 //! Rooms that no call wrote: each call answers 7 and changes nothing, or serves the state that the bytes record.
 
-use crate::both::Both;
-use crate::call::{id_of, Call};
-use crate::draws;
-use crate::judge::Judge;
-use crate::met::{calls, Met};
-use crate::reader::{read, record, SIZE};
-use crate::writer::written;
 use differential::random::Random;
+use judge::both::Both;
+use judge::call::{id_of, Call};
+use judge::draws;
+use judge::met::{calls, Met};
+use judge::reader::{read, record, SIZE};
+use judge::writer::written;
+use judge::Judge;
 use stranvek::boundary::Answer;
 use stranvek::numbers::NO_STATE;
 

@@ -1,11 +1,11 @@
 //! The typed interface of crate `stranvek` against its own boundary: the same calls on equal rooms.
 
-use crate::both::{Both, Statuses};
-use crate::call::Call;
-use crate::draws;
-use crate::forms;
 use bytes::Bytes;
 use differential::random::Random;
+use judge::both::{Both, Statuses};
+use judge::call::Call;
+use judge::draws;
+use judge::forms;
 use std::ops::Bound;
 use stranvek::boundary::Answer;
 use stranvek::numbers::{DONE, NOT_ACTIVE};

@@ -3,16 +3,6 @@
 #[path = "../shared/guarded.rs"]
 mod guarded;
 
-mod both;
-mod call;
-mod draws;
-mod forms;
-mod judge;
-mod met;
-mod reader;
-mod totals;
-mod writer;
-
 mod ceilings;
 mod edges;
 mod hostile;

@@ -1,12 +1,12 @@
 //! The incident's shape: no call reads or writes a byte outside the room and the arguments.
 
-use crate::both::Both;
-use crate::call::{list_of, Call};
-use crate::draws;
 use crate::guarded::{guarded, Against};
-use crate::reader::SIZE;
-use crate::totals::BYTE_LIMIT;
 use differential::random::Random;
+use judge::both::Both;
+use judge::call::{list_of, Call};
+use judge::draws;
+use judge::reader::SIZE;
+use judge::totals::BYTE_LIMIT;
 
 /// The same calls on a guarded room with guarded arguments, and on a plain room beside the judge.
 fn run(against: Against, room: &mut [u8], both: &mut Both, calls: impl Iterator<Item = Call>) {
@@ -41,7 +41,7 @@ fn full_rooms_beside_pages_that_may_not_be_touched() {
         let entries = (0..96).map(|n| Call::Batch(list(n, 1), 8));
         let sets = (0..32).map(|n| Call::Writes(id(n as u8), list(n * 3, 29)));
         run(against, room, &mut both, begins.chain(entries).chain(sets));
-        assert_eq!(crate::totals::totals(&both.judge.state), (1_024, BYTE_LIMIT));
+        assert_eq!(judge::totals::totals(&both.judge.state), (1_024, BYTE_LIMIT));
         let refused = [Call::Writes(id(9), list(500, 1)), Call::Check(id(3)), Call::Minimum];
         let freed = (0..32).map(|n| Call::Commit(id(n), 9 + u64::from(n)));
         run(against, room, &mut both, refused.into_iter().chain(freed));

@@ -1,7 +1,7 @@
-use crate::both::{Both, Statuses};
-use crate::call::Call;
-use crate::draws;
 use differential::random::Random;
+use judge::both::{Both, Statuses};
+use judge::call::Call;
+use judge::draws;
 use std::{env, thread};
 
 /// Calls of the gate's run; STRANVEK_CALLS names another number, as 10000000.

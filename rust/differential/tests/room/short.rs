@@ -1,7 +1,7 @@
 //! Every run of up to six calls over a small alphabet.
 
-use crate::both::Both;
-use crate::call::{field, id_of, list_of, Call};
+use judge::both::Both;
+use judge::call::{field, id_of, list_of, Call};
 use std::thread;
 
 const LENGTH: usize = 6;

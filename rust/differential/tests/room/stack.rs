@@ -1,8 +1,8 @@
 //! The deepest calls are those that draft a set, which take up to 35,415 bytes; the rest is left to the thread itself.
 
-use crate::both::Both;
-use crate::call::{field, id_of, list_of, Call};
-use crate::totals::KEY_LIMIT;
+use judge::both::Both;
+use judge::call::{field, id_of, list_of, Call};
+use judge::totals::KEY_LIMIT;
 use std::thread;
 use stranvek::boundary::Answer;
 use stranvek::numbers::DONE;

@@ -2,8 +2,8 @@
 
 use crate::both::Both;
 use crate::call::{field, id_of, list_of, Call};
-use crate::judge::Judge;
 use crate::reader::read;
+use crate::Judge;
 use stranvek::boundary::Answer;
 use stranvek::numbers::NO_STATE;
 

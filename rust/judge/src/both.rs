@@ -1,8 +1,8 @@
 //! The library's room and the judge side by side, held to each other after every call.
 
 use crate::call::Call;
-use crate::judge::Judge;
 use crate::reader::{read, SIZE};
+use crate::Judge;
 use stranvek::boundary::Answer;
 use stranvek::numbers::{DONE, NOT_ACTIVE};
 

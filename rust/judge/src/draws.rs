@@ -1,6 +1,7 @@
 //! Random calls with few ids and few short keys, so that conflicts, repeats and ties happen.
 
 use crate::call::{field, id_of, list_of, Call};
+use crate::records::record;
 use crate::totals::KEY_LIMIT;
 use differential::random::Random;
 
@@ -83,4 +84,9 @@ pub fn call(random: &mut Random, last: u64) -> Call {
         91..=95 => Call::Drop(id(random)),
         _ => Call::Minimum,
     }
+}
+
+/// A script of random calls, whose sequences rise slowly.
+pub fn script(random: &mut Random, calls: usize) -> Vec<u8> {
+    (0..calls).flat_map(|n| record(&call(random, n as u64 / 4))).collect()
 }

@@ -1,7 +1,7 @@
 //! Runs that fill a room to each ceiling, ask for one more, and use what is freed again.
 
+use super::Sample;
 use crate::call::{field, id_of, list_of, Call};
-use crate::sample::Sample;
 use crate::totals::{ACTIVE_LIMIT, ENTRY_LIMIT, KEY_LIMIT};
 
 /// The list of keys of one length, each its number and then a's.

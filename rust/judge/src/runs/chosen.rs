@@ -1,7 +1,7 @@
 //! Runs that are chosen one by one, and every pair of calls after a common beginning.
 
+use super::Sample;
 use crate::call::{field, id_of, list_of, Call};
-use crate::sample::Sample;
 use crate::totals::KEY_LIMIT;
 
 const A: u8 = 0x41;

@@ -1,37 +1,14 @@
-//! The stored sample of runs is the one that is made here; crates/runs replays it without any Rust.
+//! The sample of runs.
 
-#[allow(dead_code)]
-#[path = "../room/call.rs"]
-mod call;
-#[path = "../room/draws.rs"]
-mod draws;
-#[path = "../room/forms.rs"]
-mod forms;
-#[path = "../room/judge.rs"]
-mod judge;
-#[path = "../room/totals.rs"]
-mod totals;
-
-mod chosen;
-mod full;
-mod records;
-mod sample;
-
-use sample::Sample;
-use std::fs;
-use std::path::Path;
-
-fn stored(name: &str) -> Vec<u8> {
-    let crates = Path::new(env!("CARGO_MANIFEST_DIR")).join("../../crates");
-    fs::read(crates.join(name)).expect("a stored file")
-}
+use crate::stored;
+use judge::runs::Sample;
 
 #[test]
 fn the_stored_sample() {
     let sample = Sample::whole();
     println!("{} runs, {} answers", sample.runs, sample.answers());
     println!("statuses 0 to 7: {:?}, conflicts {}", sample.statuses, sample.conflicts);
-    assert!(stored("runs/stdin") == sample.records, "the records; examples/runs.rs writes them");
+    assert!(stored("runs/stdin") == sample.records, "the records; the program runs writes them");
     assert!(stored("runs/stdout") == sample.lines.as_bytes(), "the answers");
     let lines = sample.lines.lines().count();
     assert_eq!(lines, sample.runs + sample.answers());

@@ -1,13 +1,16 @@
 //! The fixed sample of runs: a run begins with a byte 00 and the number that its room is made fresh at, in eight bytes;
 //! script records follow. Its lines are `run` and that number, then a status and a value for each record.
 //!
-//! The answers are the unchanged Rust's, under the judge of the room's tests: document 01's table says whether a call is
-//! refused (statuses 2 to 6), and the Rust all the rest. No line of the library's makes them.
+//! The answers are the judge's: document 01's table says whether a call is refused (statuses 2 to 6), and the unchanged Rust
+//! all the rest. No line of the library's makes them.
 
-use crate::call::Call;
-use crate::judge::Judge;
-use crate::records::{call_of, record_of, written};
-use crate::{chosen, draws, full};
+mod chosen;
+mod full;
+
+use crate::call::{field, Call};
+use crate::draws;
+use crate::records::{parts, PAYLOAD_LIMIT};
+use crate::Judge;
 use differential::random::Random;
 use std::fmt::Write;
 
@@ -17,6 +20,9 @@ const LIMIT: usize = 262_144;
 /// Random runs, and the calls of each.
 const RANDOM_RUNS: usize = 60;
 const RANDOM_CALLS: usize = 60;
+
+/// The tag of a check's record.
+const CHECK: u8 = 0x05;
 
 pub struct Sample {
     pub records: Vec<u8>,
@@ -60,17 +66,17 @@ impl Sample {
     }
 
     pub fn ask(&mut self, call: &Call) {
-        let (tag, payload) = record_of(call);
+        let (tag, payload) = parts(call);
         self.ask_raw(tag, &payload);
     }
 
     pub fn ask_raw(&mut self, tag: u8, payload: &[u8]) {
-        let call = call_of(tag, payload);
-        let answer = self.judge.answer(&call);
-        self.records.extend(written(tag, payload));
+        assert!(payload.len() <= PAYLOAD_LIMIT, "a payload that ends no run");
+        let answer = self.judge.answer_record(tag, payload);
+        self.records.extend(field(tag, payload));
         writeln!(self.lines, "{} {}", answer.status, answer.value).expect("a string takes all");
         self.statuses[usize::from(answer.status)] += 1;
-        self.conflicts += usize::from(matches!(call, Call::Check(_)) && answer.value == 1);
+        self.conflicts += usize::from(tag == CHECK && answer.value == 1);
     }
 
     pub fn answers(&self) -> usize {
