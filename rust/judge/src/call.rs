@@ -1,5 +1,6 @@
-use stranvek::boundary;
-use stranvek::boundary::Answer;
+use stranvek::boundary::{self, Answer};
+
+pub use differential::fields::{field, list_of};
 
 /// A call on a room, with ids, key lists and bounds as the bytes that are passed.
 #[derive(Clone, Debug)]
@@ -63,16 +64,6 @@ impl Call {
             Call::Minimum => boundary::min_active_seq(room),
         }
     }
-}
-
-/// A field of document 01: a tag, a length of two bytes, a payload.
-pub fn field(tag: u8, payload: &[u8]) -> Vec<u8> {
-    let length = u16::try_from(payload.len()).expect("a payload that a field can have");
-    [&[tag], &length.to_be_bytes()[..], payload].concat()
-}
-
-pub fn list_of<K: AsRef<[u8]>>(keys: &[K]) -> Vec<u8> {
-    keys.iter().flat_map(|key| field(0x4b, key.as_ref())).collect()
 }
 
 /// The id whose bytes are all one.

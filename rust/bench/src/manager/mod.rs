@@ -17,9 +17,6 @@ use scenes::{Keys, Range};
 
 pub type Id = [u8; 16];
 
-/// The tag of a key in a list.
-const KEY_TAG: u8 = 0x4b;
-
 /// The transaction whose calls are timed.
 const MEASURED: Id = [0x80; 16];
 

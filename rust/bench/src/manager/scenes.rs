@@ -1,7 +1,8 @@
 //! What a manager is filled with before its calls are timed, and their arguments in each side's form.
 
-use super::{Id, Manager, KEY_TAG, MEASURED};
+use super::{Id, Manager, MEASURED};
 use bytes::Bytes;
+use differential::fields::{field, list_of};
 use differential::random::Random;
 use slatedb_oracle::bytes_range::BytesProbe;
 use std::collections::HashSet;
@@ -138,7 +139,7 @@ impl Scene {
 
 impl Keys {
     fn of(keys: Vec<Vec<u8>>) -> Keys {
-        let fields = keys.iter().flat_map(|key| field(KEY_TAG, key)).collect();
+        let fields = list_of(&keys);
         let counted: Vec<Bytes> = keys.into_iter().map(Bytes::from).collect();
         Keys { set: counted.iter().cloned().collect(), counted, fields }
     }
@@ -160,10 +161,4 @@ fn other(random: &mut Random) -> Other {
     let mut one_key = || Keys::of(drawn_keys(random, &[], BYTES_OF_OTHERS, 1));
     let (writes, reads) = (one_key(), one_key());
     Other { id: random.bytes(16).try_into().expect("16 bytes"), writes, reads }
-}
-
-/// A field of document 01.
-fn field(tag: u8, payload: &[u8]) -> Vec<u8> {
-    let length = u16::try_from(payload.len()).expect("a payload that a field can have");
-    [&[tag], &length.to_be_bytes()[..], payload].concat()
 }

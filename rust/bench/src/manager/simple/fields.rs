@@ -1,11 +1,14 @@
 //! Ids, key lists and bounds from document 01's fields, with their statuses.
 
 use super::sets::Range;
-use crate::manager::{Id, KEY_TAG};
+use crate::manager::Id;
 use std::ops::Bound;
 use stranvek::numbers::{
     BADLY_FORMED, EMPTY_RANGE, EXCLUDED, INCLUDED, KEY_LIMIT, KEY_TOO_LONG, UNBOUNDED,
 };
+
+/// The tag of a key in a list.
+const KEY_TAG: u8 = 0x4b;
 
 /// A tag and a payload.
 type Field<'a> = (u8, &'a [u8]);
