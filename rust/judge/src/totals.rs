@@ -4,11 +4,12 @@ use crate::forms::key_length;
 use bytes::Bytes;
 use slatedb_oracle::transaction_manager::{KeyRange, State};
 
+pub use differential::limited::KEY_LIMIT;
+
 pub const ACTIVE_LIMIT: usize = 32;
 pub const ENTRY_LIMIT: usize = 128;
 pub const MARK_LIMIT: usize = 1_024;
 pub const BYTE_LIMIT: usize = 32_768;
-pub const KEY_LIMIT: usize = 512;
 
 /// Marks and key bytes.
 pub type Totals = (usize, usize);
