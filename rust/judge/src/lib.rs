@@ -9,6 +9,7 @@ pub mod draws;
 pub mod forms;
 mod judge;
 pub mod met;
+pub mod numbered;
 pub mod reader;
 pub mod records;
 pub mod runs;

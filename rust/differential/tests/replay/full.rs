@@ -2,13 +2,13 @@
 
 use crate::compared::Compared;
 use differential::random::Random;
-use judge::call::{list_of, Call};
+use judge::call::{id_of, list_of, Call};
 use judge::draws;
 use judge::records::record;
 
 /// A call that asks for much: many ids, long lists, long keys.
 fn large(random: &mut Random, last: u64) -> Call {
-    let id = vec![random.below(40) as u8; 16];
+    let id = id_of(random.below(40) as u8);
     let length = random.pick(&[2, 2, 40, 512]);
     let keys = |random: &mut Random, count: usize| {
         let key = |random: &mut Random| [vec![random.byte()], vec![0x61; length - 1]].concat();

@@ -3,6 +3,7 @@
 use crate::compared::Compared;
 use crate::program::replay;
 use judge::call::{field, id_of, list_of};
+use judge::numbered::keys;
 use judge::records::PAYLOAD_LIMIT;
 
 /// A head that says a length, and what stands after it.
@@ -31,18 +32,11 @@ fn the_longest_payload() {
 fn lists_that_fill_a_payload() {
     let begin = field(0x01, &id_of(0x41));
     let one = list_of(&[vec![0x61; PAYLOAD_LIMIT - 16 - 3]]);
-    let keys: Vec<[u8; 29]> = (0..1_023).map(key).collect();
-    let many = [list_of(&keys), list_of(&[[0x61; 13]])].concat();
+    let many = [keys(0, 1_023, 29), list_of(&[[0x61; 13]])].concat();
     let record = |list: &[u8]| field(0x02, &[&id_of(0x41), list].concat());
     assert_eq!((record(&one).len(), record(&many).len()), (3 + PAYLOAD_LIMIT, 3 + PAYLOAD_LIMIT));
     assert_eq!(replay(&[begin.clone(), record(&one)].concat()), "0 0\n4 0\n");
     assert_eq!(replay(&[begin, record(&many)].concat()), "0 0\n0 1024\n");
-}
-
-fn key(n: u16) -> [u8; 29] {
-    let mut key = [0x61; 29];
-    key[..2].copy_from_slice(&n.to_be_bytes());
-    key
 }
 
 #[test]

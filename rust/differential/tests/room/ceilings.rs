@@ -4,23 +4,13 @@ use differential::random::Random;
 use judge::both::Both;
 use judge::call::{field, list_of, Call};
 use judge::draws;
+use judge::numbered::{key, keys};
 use judge::reader::SIZE;
 use judge::totals::{totals, ACTIVE_LIMIT, BYTE_LIMIT, ENTRY_LIMIT, KEY_LIMIT, MARK_LIMIT};
 use stranvek::numbers::{ALREADY_ACTIVE, DONE, KEY_TOO_LONG, NO_ROOM_LEFT};
 
 fn id(n: usize) -> Vec<u8> {
     [&[0x5a; 14], &(n as u16).to_be_bytes()[..]].concat()
-}
-
-fn key(n: usize, length: usize) -> Vec<u8> {
-    let mut key = vec![0x61; length];
-    key[..2].copy_from_slice(&(n as u16).to_be_bytes());
-    key
-}
-
-/// The list of keys of one length, each its number and then a's.
-fn keys(from: usize, count: usize, length: usize) -> Vec<u8> {
-    list_of(&(from..from + count).map(|n| key(n, length)).collect::<Vec<_>>())
 }
 
 /// Serves a call that must have the status.

@@ -2,6 +2,7 @@
 
 use bytes::Bytes;
 use judge::met::{calls, Met};
+use judge::numbered;
 use judge::reader::SIZE;
 use judge::totals::{totals, ACTIVE_LIMIT, BYTE_LIMIT, ENTRY_LIMIT, KEY_LIMIT, MARK_LIMIT};
 use judge::writer::{room_of, written};
@@ -9,9 +10,7 @@ use slatedb_oracle::transaction_manager::{Active, Entry, KeyRange, State};
 use std::ops::Bound::{Excluded, Included, Unbounded};
 
 fn key(n: usize, length: usize) -> Bytes {
-    let mut key = vec![0x61; length];
-    key[..2].copy_from_slice(&(n as u16).to_be_bytes());
-    key.into()
+    numbered::key(n, length).into()
 }
 
 fn keys(count: usize, length: usize) -> Vec<Bytes> {

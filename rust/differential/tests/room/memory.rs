@@ -3,8 +3,9 @@
 use crate::guarded::{guarded, Against};
 use differential::random::Random;
 use judge::both::Both;
-use judge::call::{list_of, Call};
+use judge::call::{id_of, Call};
 use judge::draws;
+use judge::numbered::keys;
 use judge::reader::SIZE;
 use judge::totals::BYTE_LIMIT;
 
@@ -30,20 +31,18 @@ fn rooms_beside_pages_that_may_not_be_touched() {
 
 #[test]
 fn full_rooms_beside_pages_that_may_not_be_touched() {
-    let id = |n: u8| vec![n; 16];
-    let key = |n: u16| [&n.to_be_bytes()[..], &[0x61; 30]].concat();
-    let list = |from: u16, count: u16| list_of(&(from..from + count).map(key).collect::<Vec<_>>());
+    let list = |from, count| keys(from, count, 32);
     for against in [Against::Start, Against::End] {
         let mut both = Both::fresh(7, 0x77);
         let room = guarded(&both.room[..SIZE], against);
         // 1,024 keys of 32 bytes are as many marks and key bytes as there may be.
-        let begins = (0..32).map(|n| Call::NewTransaction(id(n)));
+        let begins = (0..32).map(|n| Call::NewTransaction(id_of(n)));
         let entries = (0..96).map(|n| Call::Batch(list(n, 1), 8));
-        let sets = (0..32).map(|n| Call::Writes(id(n as u8), list(n * 3, 29)));
+        let sets = (0..32).map(|n| Call::Writes(id_of(n as u8), list(n * 3, 29)));
         run(against, room, &mut both, begins.chain(entries).chain(sets));
         assert_eq!(judge::totals::totals(&both.judge.state), (1_024, BYTE_LIMIT));
-        let refused = [Call::Writes(id(9), list(500, 1)), Call::Check(id(3)), Call::Minimum];
-        let freed = (0..32).map(|n| Call::Commit(id(n), 9 + u64::from(n)));
+        let refused = [Call::Writes(id_of(9), list(500, 1)), Call::Check(id_of(3)), Call::Minimum];
+        let freed = (0..32).map(|n| Call::Commit(id_of(n), 9 + u64::from(n)));
         run(against, room, &mut both, refused.into_iter().chain(freed));
     }
 }

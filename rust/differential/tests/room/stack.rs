@@ -1,7 +1,8 @@
 //! The deepest calls are those that draft a set, which take up to 35,415 bytes; the rest is left to the thread itself.
 
 use judge::both::Both;
-use judge::call::{field, id_of, list_of, Call};
+use judge::call::{field, id_of, Call};
+use judge::numbered::keys;
 use judge::totals::KEY_LIMIT;
 use std::thread;
 use stranvek::boundary::Answer;
@@ -18,14 +19,9 @@ fn on_small_stack(mut room: Vec<u8>, call: &Call) -> (Answer, Vec<u8>) {
     thread.join().expect("an answer")
 }
 
-/// Keys of the limit's length.
-fn keys(from: u8, count: u8) -> Vec<u8> {
-    let key = |n| [&[n], &[0x61; KEY_LIMIT - 1][..]].concat();
-    list_of(&(from..from + count).map(key).collect::<Vec<_>>())
-}
-
 #[test]
 fn every_call_on_a_small_stack() {
+    let keys = |from, count| keys(from, count, KEY_LIMIT);
     let range = [field(0x11, b"a"), field(0x10, b"")].concat();
     let calls = [
         Call::New(7),

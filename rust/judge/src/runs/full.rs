@@ -2,43 +2,37 @@
 
 use super::Sample;
 use crate::call::{field, id_of, list_of, Call};
+use crate::numbered::keys;
 use crate::totals::{ACTIVE_LIMIT, ENTRY_LIMIT, KEY_LIMIT};
 
-/// The list of keys of one length, each its number and then a's.
-fn keys(from: usize, count: usize, length: usize) -> Vec<u8> {
-    let key = |n: usize| [&(n as u16).to_be_bytes()[..], &vec![0x61; length - 2]].concat();
-    list_of(&(from..from + count).map(key).collect::<Vec<_>>())
-}
-
-fn id(n: usize) -> Vec<u8> {
-    id_of(n as u8)
-}
+/// The id of one transaction too many.
+const BEYOND: u8 = ACTIVE_LIMIT as u8;
 
 fn active(sample: &mut Sample) {
     sample.fresh(7);
-    (0..=ACTIVE_LIMIT).for_each(|n| sample.ask(&Call::NewTransaction(id(n))));
+    (0..=BEYOND).for_each(|n| sample.ask(&Call::NewTransaction(id_of(n))));
     for call in [
-        Call::NewTransaction(id(0)),
-        Call::Drop(id(3)),
-        Call::NewTransaction(id(ACTIVE_LIMIT)),
-        Call::NewTransaction(id(3)),
-        Call::Commit(id(4), 9),
-        Call::NewTransaction(id(3)),
+        Call::NewTransaction(id_of(0)),
+        Call::Drop(id_of(3)),
+        Call::NewTransaction(id_of(BEYOND)),
+        Call::NewTransaction(id_of(3)),
+        Call::Commit(id_of(4), 9),
+        Call::NewTransaction(id_of(3)),
     ] {
         sample.ask(&call);
     }
 }
 
 fn entries(sample: &mut Sample) {
-    sample.run(7, &[Call::NewTransaction(id(0)), Call::NewTransaction(id(1))]);
+    sample.run(7, &[Call::NewTransaction(id_of(0)), Call::NewTransaction(id_of(1))]);
     for n in 0..=ENTRY_LIMIT {
         sample.ask(&Call::Batch(keys(n, 1, 2), 8 + n as u64));
     }
     for call in [
-        Call::Commit(id(0), 900),
-        Call::Drop(id(1)),
+        Call::Commit(id_of(0), 900),
+        Call::Drop(id_of(1)),
         Call::Batch(Vec::new(), 8),
-        Call::Commit(id(0), 900),
+        Call::Commit(id_of(0), 900),
         Call::Minimum,
         Call::Batch(keys(0, 2_000, 2), 901),
     ] {
@@ -48,23 +42,23 @@ fn entries(sample: &mut Sample) {
 
 fn marks(sample: &mut Sample) {
     let all = [field(0x10, &[]), field(0x10, &[])].concat();
-    sample.run(7, &[Call::NewTransaction(id(0)), Call::NewTransaction(id(1))]);
+    sample.run(7, &[Call::NewTransaction(id_of(0)), Call::NewTransaction(id_of(1))]);
     for call in [
-        Call::Writes(id(0), keys(0, 1_025, 2)),
-        Call::Writes(id(0), keys(0, 1_000, 2)),
-        Call::Reads(id(1), keys(0, 25, 2)),
-        Call::Reads(id(1), [keys(0, 24, 2), keys(0, 24, 2)].concat()),
-        Call::Writes(id(0), keys(0, 1_000, 2)),
-        Call::Reads(id(0), keys(0, 1, 2)),
-        Call::Range(id(1), all.clone()),
+        Call::Writes(id_of(0), keys(0, 1_025, 2)),
+        Call::Writes(id_of(0), keys(0, 1_000, 2)),
+        Call::Reads(id_of(1), keys(0, 25, 2)),
+        Call::Reads(id_of(1), [keys(0, 24, 2), keys(0, 24, 2)].concat()),
+        Call::Writes(id_of(0), keys(0, 1_000, 2)),
+        Call::Reads(id_of(0), keys(0, 1, 2)),
+        Call::Range(id_of(1), all.clone()),
         Call::Batch(keys(0, 1, 2), 9),
         Call::Batch(Vec::new(), 9),
-        Call::Commit(id(0), 10),
-        Call::Range(id(1), all.clone()),
-        Call::Check(id(1)),
-        Call::Drop(id(1)),
-        Call::NewTransaction(id(1)),
-        Call::Range(id(1), all),
+        Call::Commit(id_of(0), 10),
+        Call::Range(id_of(1), all.clone()),
+        Call::Check(id_of(1)),
+        Call::Drop(id_of(1)),
+        Call::NewTransaction(id_of(1)),
+        Call::Range(id_of(1), all),
     ] {
         sample.ask(&call);
     }
@@ -72,18 +66,18 @@ fn marks(sample: &mut Sample) {
 
 fn key_bytes(sample: &mut Sample) {
     let half = KEY_LIMIT / 2;
-    sample.run(7, &[Call::NewTransaction(id(0)), Call::NewTransaction(id(1))]);
+    sample.run(7, &[Call::NewTransaction(id_of(0)), Call::NewTransaction(id_of(1))]);
     for call in [
-        Call::Writes(id(0), keys(0, 63, KEY_LIMIT)),
-        Call::Reads(id(1), keys(0, 2, half + 1)),
-        Call::Reads(id(1), keys(0, 2, half)),
-        Call::Reads(id(0), list_of(&["a"])),
-        Call::Range(id(0), [field(0x10, b""), field(0x11, b"a")].concat()),
+        Call::Writes(id_of(0), keys(0, 63, KEY_LIMIT)),
+        Call::Reads(id_of(1), keys(0, 2, half + 1)),
+        Call::Reads(id_of(1), keys(0, 2, half)),
+        Call::Reads(id_of(0), list_of(&["a"])),
+        Call::Range(id_of(0), [field(0x10, b""), field(0x11, b"a")].concat()),
         Call::Batch(list_of(&["a"]), 9),
-        Call::Reads(id(0), list_of(&[""])),
-        Call::Drop(id(1)),
-        Call::Reads(id(0), keys(0, 1, KEY_LIMIT)),
-        Call::Commit(id(0), 9),
+        Call::Reads(id_of(0), list_of(&[""])),
+        Call::Drop(id_of(1)),
+        Call::Reads(id_of(0), keys(0, 1, KEY_LIMIT)),
+        Call::Commit(id_of(0), 9),
         Call::Minimum,
     ] {
         sample.ask(&call);
