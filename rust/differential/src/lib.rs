@@ -5,3 +5,4 @@ pub mod fields;
 pub mod inputs;
 pub mod limited;
 pub mod random;
+pub mod sample;

@@ -1,5 +1,6 @@
 //! The stored samples are the ones that are made here; crates/sample and crates/runs replay them without any Rust.
 
+mod ranges;
 mod runs;
 
 use std::fs;
