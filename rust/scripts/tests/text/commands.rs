@@ -16,7 +16,9 @@ fn replay() -> PathBuf {
 }
 
 fn script(words: &[&str], input: &[u8]) -> Output {
-    let mut child = Command::new(env!("CARGO_BIN_EXE_script"))
+    // A program that hangs is ended with the command that runs it, which makes a failure of it.
+    let mut child = Command::new("timeout")
+        .args(["--signal=KILL", "60", env!("CARGO_BIN_EXE_script")])
         .args(words)
         .stdin(Stdio::piped())
         .stdout(Stdio::piped())
