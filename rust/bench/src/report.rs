@@ -59,16 +59,16 @@ pub fn manager(plans: &[Plan], cases: &[Case]) -> String {
 }
 
 pub fn growth(curves: &[Curves; 2]) -> String {
-    let mut text = GROWTH.to_string();
-    for (panel, curves) in PANELS.iter().zip(curves) {
-        text += &format!("\n| {} | port | original | simple |\n|---|---|---|---|\n", panel.along);
-        for (place, point) in panel.points.iter().enumerate() {
+    let tables = PANELS.iter().zip(curves).map(|(panel, curves)| {
+        let head = format!("\n| {} | port | original | simple |\n|---|---|---|---|\n", panel.along);
+        let row = |(place, point): (usize, &usize)| {
             let [port, original, simple] =
                 [PORT, ORIGINAL, SIMPLE].map(|side| two_digits(curves[side][place]));
-            text += &format!("| {} | {} | {} | {} |\n", point, port, original, simple);
-        }
-    }
-    text
+            format!("| {} | {} | {} | {} |\n", point, port, original, simple)
+        };
+        head + &panel.points.iter().enumerate().map(row).collect::<String>()
+    });
+    GROWTH.to_string() + &tables.collect::<String>()
 }
 
 fn median_and_half(ratios: &[f64]) -> String {

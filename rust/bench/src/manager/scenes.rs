@@ -22,7 +22,7 @@ pub struct Range {
 }
 
 /// Bytes that all keys begin with, and bytes of each key's own.
-#[derive(Clone, Copy, PartialEq)]
+#[derive(Clone, Copy, PartialEq, Eq)]
 pub struct KeyForm {
     pub shared: usize,
     pub own: usize,
@@ -46,7 +46,7 @@ pub struct Shape {
 }
 
 /// How far the measured transaction has come before the clock starts.
-#[derive(Clone, Copy, PartialEq)]
+#[derive(Clone, Copy, PartialEq, Eq)]
 pub enum Ready {
     Absent,
     Begun,
@@ -87,7 +87,7 @@ impl Scene {
         Scene { shape, entries, others, writes: Keys::of(writes), reads: Keys::of(reads), ranges }
     }
 
-    pub fn fill(&self, manager: &mut dyn Manager, ready: Ready) {
+    pub(super) fn fill(&self, manager: &mut dyn Manager, ready: Ready) {
         for other in &self.others {
             manager.new_transaction(&other.id);
             manager.track_write_keys(&other.id, &other.writes);
@@ -113,7 +113,7 @@ impl Scene {
     }
 
     /// All that the measured transaction tracks.
-    pub fn track(&self, manager: &mut dyn Manager) {
+    pub(super) fn track(&self, manager: &mut dyn Manager) {
         self.track_writes(manager);
         if self.shape.reads > 0 {
             manager.track_read_keys(&MEASURED, &self.reads);
@@ -121,18 +121,18 @@ impl Scene {
         self.track_ranges(manager);
     }
 
-    pub fn track_writes(&self, manager: &mut dyn Manager) {
+    pub(super) fn track_writes(&self, manager: &mut dyn Manager) {
         manager.track_write_keys(&MEASURED, &self.writes);
     }
 
-    pub fn track_ranges(&self, manager: &mut dyn Manager) {
+    pub(super) fn track_ranges(&self, manager: &mut dyn Manager) {
         for range in &self.ranges {
             manager.track_read_range(&MEASURED, range);
         }
     }
 
     /// At the last number, so that the number stays.
-    pub fn commit(&self, manager: &mut dyn Manager) {
+    pub(super) fn commit(&self, manager: &mut dyn Manager) {
         manager.track_recent_committed_txn(&MEASURED, self.shape.entries as u64);
     }
 }
