@@ -1,3 +1,5 @@
+//! The calls of the manager as values.
+
 use stranvek::boundary::{self, Answer};
 
 pub use differential::fields::{field, list_of};

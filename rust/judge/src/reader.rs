@@ -6,7 +6,7 @@ use bytes::Bytes;
 use slatedb_oracle::bytes_range::BytesProbe;
 use slatedb_oracle::transaction_manager::{Active, Entry, KeyRange, State};
 
-/// The published size, as a number of the test's own.
+/// The published size, as a number that is not read from the library.
 pub const SIZE: usize = 41_172;
 
 const STAMP: u64 = 0x5374_7261_6e76_6b31;
