@@ -24,6 +24,10 @@ lineOf status value = decimal status ++ (32 ∷ []) ++ decimal value ++ (10 ∷ 
 abbrev pub stopLine : ℕ → List ℕ
 stopLine offset = (115 ∷ 116 ∷ 111 ∷ 112 ∷ 32 ∷ []) ++ decimal offset ++ (10 ∷ [])
 
+-- no line of a status, a value or an offset that fits its bytes is longer: `stop`, a space, 20 digits, and the line's end
+abbrev pub lineLimit : ℕ
+lineLimit = 26
+
 -- a text stands from `at` up to r, and no other byte has changed
 pub record Put (before : List ℕ) (at : ℕ) (text : List ℕ) (r : ℕ) (after : List ℕ) : Type 0 where
   pub ends : r ≡ at + length text

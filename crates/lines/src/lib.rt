@@ -3,7 +3,7 @@ ghost use mathlib.Core.Path.{_≡_};
 ghost use Prim.Native.Nat.{_+_, _%_, _≤_};
 ghost use mathlib.Core.List.{[], _∷_};
 ghost use lib.ListN.{length};
-ghost use Rattle.lines.specs.Lines.{decimal, lineOf, stopLine, Put};
+ghost use Rattle.lines.specs.Lines.{decimal, lineOf, stopLine, lineLimit, Put};
 
 // No line is longer: `stop`, a space, a number of at most 20 digits, and the line's end.
 pub const LINE_LIMIT: usize = 26;
@@ -38,7 +38,7 @@ fn put_decimal(out: &mut [u8], at: usize, n: u64) -> usize
 
 // The line of an answer: status, space, value in decimal.
 pub fn put_line(out: &mut [u8], at: usize, status: u8, value: u64) -> usize
-    requires { ⌜ at + 26 ≤ length (now out) ⌝ }
+    requires { ⌜ at + lineLimit ≤ length (now out) ⌝ }
     ensures { λ r. ⌜ Put (now (out .entry)) at (lineOf status value) r (now (out .exit)) ⌝ }
 {
     let space = put_decimal(out, at, status as u64);
@@ -49,7 +49,7 @@ pub fn put_line(out: &mut [u8], at: usize, status: u8, value: u64) -> usize
 
 // The line that ends a run: `stop`, space, the record's byte offset in decimal.
 pub fn put_stop(out: &mut [u8], at: usize, offset: u64) -> usize
-    requires { ⌜ at + 26 ≤ length (now out) ⌝ }
+    requires { ⌜ at + lineLimit ≤ length (now out) ⌝ }
     ensures { λ r. ⌜ Put (now (out .entry)) at (stopLine offset) r (now (out .exit)) ⌝ }
 {
     let t = put_byte(out, at, b's');

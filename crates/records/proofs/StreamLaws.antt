@@ -6,7 +6,7 @@ use mathlib.Core.List.{List, [], _∷_, _++_}
 use native.Mathlib.Omega.{arith}
 use borrow.Author.Tests.{le-leb, leb-true}
 use lib.Dec.{leb}
-use lib.ListN.{length, take, drop, length-append}
+use lib.ListN.{length, take, drop, length-append, length-drop}
 use lib.Seq.{take-append-le, drop-append-le}
 use Rattle.records.proofs.RecordLaws.{next-unknown}
 use Rattle.records.specs.Stream.{Next, whole, more, stop, known, next, headed}
@@ -56,3 +56,32 @@ whole-stays bs c e = stays c bs (ap decided e) ∙ ap (behind c) e
 
 pub stop-stays : (bs c : List ℕ) → next bs ≡ stop → next (bs ++ c) ≡ stop
 stop-stays bs c e = stays c bs (ap decided e) ∙ ap (behind c) e
+
+abbrev after : Next → List ℕ
+after (whole tag p rest) = rest
+after more = []
+after stop = []
+
+-- what follows a record is no longer than what it stood at the front of
+shrinks : (bs : List ℕ) → length (after (next bs)) ≤ length bs
+shrinks [] = omega arith
+shrinks (t ∷ []) = go (known t)
+  where
+    go : (b : Bool) → length (after (cond b more stop)) ≤ 1
+    go true = omega arith
+    go false = omega arith
+shrinks (t ∷ h ∷ []) = go (known t)
+  where
+    go : (b : Bool) → length (after (cond b more stop)) ≤ 2
+    go true = omega arith
+    go false = omega arith
+shrinks (t ∷ h ∷ l ∷ bs) = go (known t) (leb (h * 256 + l) 32768) (leb (h * 256 + l) (length bs))
+  where
+    go : (u v w : Bool) → length (after (cond u (cond v (cond w (whole t (take (h * 256 + l) bs) (drop (h * 256 + l) bs)) more) stop) stop)) ≤ length (t ∷ h ∷ l ∷ bs)
+    go false v w = omega arith
+    go true false w = omega arith
+    go true true false = omega arith
+    go true true true = omega (arith, length-drop (h * 256 + l) bs)
+
+pub whole-shrinks : (bs : List ℕ) {p rest : List ℕ} {tag : ℕ} → next bs ≡ whole tag p rest → length rest ≤ length bs
+whole-shrinks bs e = omega (arith, shrinks bs, ap (λ (n : Next). length (after n)) e)

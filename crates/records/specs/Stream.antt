@@ -1,6 +1,6 @@
 -- Script records, at the front of the bytes that have come.
 use Prim.Native.Nat.{ℕ, _+_, _*_}
-use mathlib.Core.Bool.{Bool, cond, _&&_}
+use mathlib.Core.Bool.{Bool, true, false, cond, _&&_}
 use mathlib.Core.List.{List, [], _∷_}
 use lib.Dec.{leb}
 use lib.ListN.{length, take, drop}
@@ -17,6 +17,11 @@ payloadLimit = 32768
 pub data Next : Type 0 where
   whole : ℕ → List ℕ → List ℕ → Next
   more stop : Next
+
+abbrev pub isWhole : Next → Bool
+isWhole (whole tag p rest) = true
+isWhole more = false
+isWhole stop = false
 
 -- a record whose head is whole, n being the length that it says
 abbrev pub headed : ℕ → ℕ → List ℕ → Next

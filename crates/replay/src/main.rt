@@ -8,7 +8,7 @@ use libc::STDOUT_FILENO;
 use lines::put_stop;
 use manager::transaction_manager::new;
 use room::ceilings::SIZE;
-use script::feed::Fed;
+use script::feed::End;
 use script::feed::feed;
 
 // More than the longest record, so that a partial one leaves place for the next read.
@@ -27,10 +27,11 @@ fn say_stop(lines: &mut [u8], offset: u64)
     io::write_all(STDOUT_FILENO, &lines[0..n]);
 }
 
-// What is left of a piece: from the record that is not whole yet, or from the one that ends the run.
+// What is left of a piece: from the record that is not whole yet, from the one that ends the run, or nothing that could be said.
 enum Left {
     More(usize),
     Stop(usize),
+    Lost,
 }
 
 // Feeds a piece, and writes the lines whenever they fill their place.
@@ -40,19 +41,17 @@ fn play_piece(room: &mut [u8], piece: &[u8], lines: &mut [u8]) -> Left
 {
     let mut from = 0;
     loop {
-        match feed(room, &piece[from..], lines) {
-            Fed::Full { at, put } => {
-                io::write_all(STDOUT_FILENO, &lines[0..put]);
-                from += at;
-            }
-            Fed::More { at, put } => {
-                io::write_all(STDOUT_FILENO, &lines[0..put]);
-                return Left::More(from + at);
-            }
-            Fed::Stop { at, put } => {
-                io::write_all(STDOUT_FILENO, &lines[0..put]);
-                return Left::Stop(from + at);
-            }
+        let fed = feed(room, &piece[from..], lines);
+        let put = fed.put;
+        if !io::write_all(STDOUT_FILENO, &lines[0..put]) {
+            return Left::Lost;
+        }
+        from += fed.at;
+        let end = fed.end;
+        match end {
+            End::More => return Left::More(from),
+            End::Stop => return Left::Stop(from),
+            End::Full => {}
         }
     }
 }
@@ -90,6 +89,7 @@ fn play(room: &mut [u8], buffer: &mut [u8], lines: &mut [u8])
                 say_stop(lines, offset + at as u64);
                 return;
             }
+            Left::Lost => return,
         }
     }
 }

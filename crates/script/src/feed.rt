@@ -6,12 +6,18 @@ use lines::put_line;
 use records::Next;
 use records::next_record;
 
-// How much of the piece was served, how many bytes of lines were put, and why no more: the next record is not whole yet, it ends
-// the run, or no place for its line is left.
-pub enum Fed {
-    More { at: usize, put: usize },
-    Stop { at: usize, put: usize },
-    Full { at: usize, put: usize },
+// Why feeding ended: the next record is not whole yet, it ends the run, or there is no place for its line.
+pub enum End {
+    More,
+    Stop,
+    Full,
+}
+
+// How much of a piece was served, and how many bytes of lines were put.
+pub struct Fed {
+    pub at: usize,
+    pub put: usize,
+    pub end: End,
 }
 
 pub fn feed(room: &mut [u8], bytes: &[u8], out: &mut [u8]) -> Fed
@@ -21,7 +27,11 @@ pub fn feed(room: &mut [u8], bytes: &[u8], out: &mut [u8]) -> Fed
     let mut put = 0;
     loop {
         if out.len() - put < LINE_LIMIT {
-            return Fed::Full { at, put };
+            return Fed {
+                at,
+                put,
+                end: End::Full,
+            };
         }
         match next_record(bytes, at) {
             Next::Whole { tag, from, to } => {
@@ -29,8 +39,16 @@ pub fn feed(room: &mut [u8], bytes: &[u8], out: &mut [u8]) -> Fed
                 put = put_line(out, put, answer.status, answer.value);
                 at = to;
             }
-            Next::More => return Fed::More { at, put },
-            Next::Stop => return Fed::Stop { at, put },
+            Next::More => return Fed {
+                at,
+                put,
+                end: End::More,
+            },
+            Next::Stop => return Fed {
+                at,
+                put,
+                end: End::Stop,
+            },
         }
     }
 }

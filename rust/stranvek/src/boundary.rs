@@ -19,7 +19,8 @@
 //! handed the archive's functions alone.
 #![allow(unsafe_code)]
 
-/// What a call answers: the value is the call's own where the status is [`DONE`](crate::numbers::DONE), and 0 with a refusal.
+/// What a call answers: the value is the call's own where the status is [`DONE`](crate::numbers::DONE), and for commit and drop
+/// where it is [`NOT_ACTIVE`](crate::numbers::NOT_ACTIVE) too; else it is 0.
 #[repr(C)]
 #[derive(Clone, Copy, Debug, PartialEq, Eq)]
 pub struct Answer {

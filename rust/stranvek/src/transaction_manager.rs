@@ -213,7 +213,7 @@ impl<'a> TransactionManager<'a> {
     /// # Errors
     /// [`Error::NotActive`].
     pub fn check_has_conflict(&self, txn_id: &TxnId) -> Result<bool, Error> {
-        done(boundary::check_has_conflict(self.room, txn_id.as_bytes())).map(|value| value == 1)
+        done(boundary::check_has_conflict(self.room, txn_id.as_bytes())).map(|value| value != 0)
     }
 
     /// Commits a transaction at a sequence: it leaves, its writes become an entry, and the last committed number advances. Ask

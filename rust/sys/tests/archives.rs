@@ -22,6 +22,7 @@ fn nothing_is_asked_of_the_linker_but_moves_of_memory() {
     for name in ["host", "desk"] {
         let asked = symbols(name, "-u");
         println!("{} asks for {:?}", name, asked);
+        assert!(!asked.is_empty(), "a list that was read has moves at least");
         let others: Vec<_> =
             asked.iter().filter(|asked| !MOVES.contains(&asked.as_str())).collect();
         assert!(others.is_empty(), "{} asks for {:?}", name, others);

@@ -40,133 +40,153 @@ fed c = held-of (c .before .before .before .before .before .before .before .befo
 fed2 : (c : tie.After-at2 Inv-loop μ-loop) → c .at2 .given .0 .0 ≤ c .before .before .before .before .before .before .before .before .before .before .before .before .before .before .read-on .result
 fed2 c = stopped-of (c .before .before .before .before .before .before .before .before .before .before .before .before .before .before .read-on .last .0) (c .before .before .before .before .before .before .before .before .before .before .before .before .before .before .read-on .result) (rw (c .at2 .given .1) at (c .before .before .before .before .before .before .play-piece .ensures)) (omega (arith, c .before .before .before .before .before .before .before .before .before .before .before .before .before .before .read-on .ensures .1))
 
--- src/main.rt:75:5
+-- src/main.rt:74:5
 loop-holds : tie.Need-loop-holds Inv-loop μ-loop
 loop-holds c = (refl, (refl, (refl, (c .before .before .before .pre .0, (c .before .before .before .pre .1, omega arith)))))
 
--- src/main.rt:76:13
+-- src/main.rt:75:13
 read-on-requires : tie.Need-read-on-requires Inv-loop μ-loop
 read-on-requires c κs = omega (arith, c .before .before .loop .inv)
 
--- src/main.rt:79:17
+-- src/main.rt:78:17
 say-stop-requires : tie.Need-say-stop-requires Inv-loop μ-loop
 say-stop-requires c κs = omega (arith, c .before .before .before .before .before .before .before .before .loop .inv)
 
--- src/main.rt:81:13
+-- src/main.rt:80:13
 same-length : tie.Need-same-length Inv-loop μ-loop
 same-length c = omega (arith, c .before .before .before .before .before .before .before .before .before .before .before .loop .inv)
 
--- src/main.rt:81:13
+-- src/main.rt:80:13
 same-length-2 : tie.Need-same-length-2 Inv-loop μ-loop
 same-length-2 c = omega (arith, c .before .before .before .before .before .before .before .before .before .before .before .loop .inv)
 
--- src/main.rt:81:13
+-- src/main.rt:80:13
 same-length-3 : tie.Need-same-length-3 Inv-loop μ-loop
 same-length-3 c = omega (arith, c .before .before .before .before .before .before .before .before .before .before .before .loop .inv)
 
--- src/main.rt:81:13
+-- src/main.rt:80:13
 returns : tie.Need-returns Inv-loop μ-loop
 returns c = tt
 
--- src/main.rt:81:13
+-- src/main.rt:80:13
 same-length-4 : tie.Need-same-length-4 Inv-loop μ-loop
 same-length-4 c = omega (arith, c .before .before .before .before .before .before .before .loop .inv)
 
--- src/main.rt:81:13
+-- src/main.rt:80:13
 same-length-5 : tie.Need-same-length-5 Inv-loop μ-loop
 same-length-5 c = omega (arith, c .before .before .before .before .before .before .before .loop .inv)
 
--- src/main.rt:81:13
+-- src/main.rt:80:13
 same-length-6 : tie.Need-same-length-6 Inv-loop μ-loop
 same-length-6 c = omega (arith, c .before .before .before .before .before .before .before .loop .inv)
 
--- src/main.rt:81:13
+-- src/main.rt:80:13
 returns-2 : tie.Need-returns-2 Inv-loop μ-loop
 returns-2 c = tt
 
--- src/main.rt:83:32
+-- src/main.rt:82:32
 sub-play-piece : tie.Need-sub-play-piece Inv-loop μ-loop
 sub-play-piece c = omega arith
 
--- src/main.rt:83:32
+-- src/main.rt:82:32
 part-play-piece-start : tie.Need-part-play-piece-start Inv-loop μ-loop
 part-play-piece-start c = omega arith
 
--- src/main.rt:83:32
+-- src/main.rt:82:32
 part-play-piece-end : tie.Need-part-play-piece-end Inv-loop μ-loop
 part-play-piece-end c = omega (arith, c .before .before .before .before .before .read-on .ensures .1)
 
--- src/main.rt:83:15
+-- src/main.rt:82:15
 play-piece-requires : tie.Need-play-piece-requires Inv-loop μ-loop
 play-piece-requires c κs = omega (arith, c .before .before .before .before .before .before .before .before .before .before .loop .inv)
 
--- src/main.rt:84:24
+-- src/main.rt:83:24
 enum-known-at : tie.Need-enum-known-at Inv-loop μ-loop
 enum-known-at c = search needs
 
--- src/main.rt:85:24
+-- src/main.rt:84:24
 sub-held : tie.Need-sub-held Inv-loop μ-loop
 sub-held c = omega (arith, fed (c .before))
 
--- src/main.rt:86:17
+-- src/main.rt:85:17
 move-down-requires : tie.Need-move-down-requires Inv-loop μ-loop
 move-down-requires c κs = (omega arith, omega (arith, fed (c .before .before), c .before .before .before .before .before .before .before .before .before .before .before .before .before .before .before .before .read-on .ensures .1))
 
--- src/main.rt:87:17
+-- src/main.rt:86:17
 add-offset : tie.Need-add-offset Inv-loop μ-loop
 add-offset c = omega (arith, fed (c .before .before .before .before .before), c .before .before .before .before .before .before .before .before .before .before .before .before .before .before .before .before .before .before .before .read-on .ensures .1, c .before .before .before .before .before .before .before .before .before .before .before .before .before .before .before .before .before .before .before .before .before .before .loop .inv)
 
--- src/main.rt:75:5
+-- src/main.rt:74:5
 loop-less : tie.Need-loop-less Inv-loop μ-loop
 loop-less c = omega (arith, fed (c .before .before .before .before .before), c .before .before .before .before .before .before .before .before .before .before .before .before .before .before .before .before .before .before .before .read-on .ensures, c .before .before .before .before .before .before .before .before .before .before .before .before .before .before .before .before .before .before .before .before .before .before .loop .inv)
 
--- src/main.rt:75:5
+-- src/main.rt:74:5
 loop-again : tie.Need-loop-again Inv-loop μ-loop
 loop-again c = (omega (arith, c .before .before .before .before .before .before .before .before .before .before .before .before .before .before .before .before .before .before .before .before .before .before .loop .inv), (omega (arith, c .before .before .before .before .before .before .before .before .before .before .before .before .before .before .before .before .before .before .before .before .before .before .loop .inv), (omega (arith, c .before .before .before .before .before .before .before .before .before .before .before .before .before .before .before .before .before .before .before .before .before .before .loop .inv), (omega (arith, c .before .before .before .before .before .before .before .before .before .before .before .before .before .before .before .before .before .before .before .before .before .before .loop .inv), (omega (arith, c .before .before .before .before .before .before .before .before .before .before .before .before .before .before .before .before .before .before .before .before .before .before .loop .inv), omega (arith, fed (c .before .before .before .before .before)))))))
 
--- src/main.rt:89:24
+-- src/main.rt:88:24
 enum-known-at-2 : tie.Need-enum-known-at-2 Inv-loop μ-loop
 enum-known-at-2 c = search needs
 
--- src/main.rt:90:33
+-- src/main.rt:89:33
 add-say-stop : tie.Need-add-say-stop Inv-loop μ-loop
 add-say-stop c = omega (arith, fed2 (c .before .before), c .before .before .before .before .before .before .before .before .before .before .before .before .before .before .before .before .read-on .ensures .1, c .before .before .before .before .before .before .before .before .before .before .before .before .before .before .before .before .before .before .before .loop .inv)
 
--- src/main.rt:90:17
+-- src/main.rt:89:17
 say-stop-requires-2 : tie.Need-say-stop-requires-2 Inv-loop μ-loop
 say-stop-requires-2 c κs = omega (arith, c .before .before .before .before .before .before .before .before .before .before .before .before .before .before .before .before .before .before .before .loop .inv)
 
--- src/main.rt:91:17
+-- src/main.rt:90:17
 same-length-7 : tie.Need-same-length-7 Inv-loop μ-loop
 same-length-7 c = omega (arith, c .before .before .before .before .before .before .before .before .before .before .before .before .before .before .before .before .before .before .before .before .before .before .loop .inv)
 
--- src/main.rt:91:17
+-- src/main.rt:90:17
 same-length-8 : tie.Need-same-length-8 Inv-loop μ-loop
 same-length-8 c = omega (arith, c .before .before .before .before .before .before .before .before .before .before .before .before .before .before .before .before .before .before .before .before .before .before .loop .inv)
 
--- src/main.rt:91:17
+-- src/main.rt:90:17
 same-length-9 : tie.Need-same-length-9 Inv-loop μ-loop
 same-length-9 c = omega (arith, c .before .before .before .before .before .before .before .before .before .before .before .before .before .before .before .before .before .before .before .before .before .before .loop .inv)
 
--- src/main.rt:91:17
+-- src/main.rt:90:17
 returns-3 : tie.Need-returns-3 Inv-loop μ-loop
 returns-3 c = tt
 
--- src/main.rt:70:1
+-- src/main.rt:92:27
+enum-told : tie.Need-enum-told Inv-loop μ-loop
+enum-told c = search needs
+
+-- src/main.rt:92:27
 same-length-10 : tie.Need-same-length-10 Inv-loop μ-loop
-same-length-10 c = c .before .loop .inv .0
+same-length-10 c = omega (arith, c .before .before .before .before .before .before .before .before .before .before .before .before .before .before .before .before .before .loop .inv)
 
--- src/main.rt:70:1
+-- src/main.rt:92:27
 same-length-11 : tie.Need-same-length-11 Inv-loop μ-loop
-same-length-11 c = c .before .loop .inv .1 .0
+same-length-11 c = omega (arith, c .before .before .before .before .before .before .before .before .before .before .before .before .before .before .before .before .before .loop .inv)
 
--- src/main.rt:70:1
+-- src/main.rt:92:27
 same-length-12 : tie.Need-same-length-12 Inv-loop μ-loop
-same-length-12 c = c .before .loop .inv .1 .1 .0
+same-length-12 c = omega (arith, c .before .before .before .before .before .before .before .before .before .before .before .before .before .before .before .before .before .loop .inv)
 
--- src/main.rt:70:1
+-- src/main.rt:92:27
 returns-4 : tie.Need-returns-4 Inv-loop μ-loop
 returns-4 c = tt
+
+-- src/main.rt:69:1
+same-length-13 : tie.Need-same-length-13 Inv-loop μ-loop
+same-length-13 c = c .before .loop .inv .0
+
+-- src/main.rt:69:1
+same-length-14 : tie.Need-same-length-14 Inv-loop μ-loop
+same-length-14 c = c .before .loop .inv .1 .0
+
+-- src/main.rt:69:1
+same-length-15 : tie.Need-same-length-15 Inv-loop μ-loop
+same-length-15 c = c .before .loop .inv .1 .1 .0
+
+-- src/main.rt:69:1
+returns-5 : tie.Need-returns-5 Inv-loop μ-loop
+returns-5 c = tt
 
 pub play-spec : {M : Type 1} → statement M
 play-spec =
@@ -202,7 +222,12 @@ play-spec =
     same-length-8
     same-length-9
     returns-3
+    enum-told
     same-length-10
     same-length-11
     same-length-12
-    returns-4)
+    returns-4
+    same-length-13
+    same-length-14
+    same-length-15
+    returns-5)

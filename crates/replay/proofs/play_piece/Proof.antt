@@ -4,11 +4,11 @@ use mathlib.Core.List.{List}
 use native.Mathlib.Omega.{arith}
 use borrow.Author.Needs.{needs}
 use borrow.Rule.Slice.PartAt.{part-to-end}
-use lib.ListN.{length, take, drop, length-drop}
 use denote.Ref.{now}
-use Rattle.records.specs.Records.{MoreAt, StopAt}
+use lib.ListN.{length, take, drop, length-drop}
+use Rattle.records.specs.Records.{MoreAt}
 use Rattle.script.specs.Played.{FedTo}
-use Rattle.replay.specs.Left.{Held, Stopped}
+use Rattle.replay.specs.Left.{Held}
 use Rattle.replay.proofs.play_piece.Statement.{statement}
 use Rattle.replay.proofs.play_piece.Tie as tie
 use Rattle.replay.proofs.play_piece.Reads as reads
@@ -25,155 +25,116 @@ abbrev μ-loop : tie.MeasureT-loop
 part-length : (s : List ℕ) (from : ℕ) → length (take (length s - from) (drop from s)) ≡ length s - from
 part-length s from = ap length (part-to-end s from) ∙ length-drop from s
 
--- what was fed of the part behind `from`, by its place in the piece; the lines fill their place only behind a record at least
-module _ (s : List ℕ) (from : ℕ) {room out room' out' : List ℕ} {at put : ℕ} (h : from ≤ length s) (e : length out ≡ 65536) where
-  upto : FedTo room (take (length s - from) (drop from s)) out at put room' out' → (from + at ≤ length s) × (put ≤ 65536)
-  upto f = (omega (arith, f .inside, part-length s from), omega (arith, f .fits, e))
+-- what was fed of the part behind `from`, by its place in the piece
+module _ (s : List ℕ) (from : ℕ) {room out room' out' : List ℕ} {at put : ℕ} (h : from ≤ length s) (e : length out ≡ 65536)
+    (f : FedTo room (take (length s - from) (drop from s)) out at put room' out') where
+  upto : (from + at ≤ length s) × (put ≤ 65536)
+  upto = (omega (arith, f .inside, part-length s from), omega (arith, f .fits, e))
 
-  full-of : FedTo room (take (length s - from) (drop from s)) out at put room' out' × (length out < put + 26)
-      → (from + at ≤ length s) × (put ≤ 65536) × (0 < at)
-  full-of f = (upto (f .0) .0, upto (f .0) .1, omega (arith, f .0 .rate, f .1, e))
+  held : MoreAt (take (length s - from) (drop from s)) at → Held s (from + at)
+  held m = record { inside = upto .0; few = omega (arith, m .few, f .inside, part-length s from) }
 
-  more-of : FedTo room (take (length s - from) (drop from s)) out at put room' out' × MoreAt (take (length s - from) (drop from s)) at
-      → Held s (from + at) × (put ≤ 65536)
-  more-of f = (record { inside = upto (f .0) .0; few = omega (arith, f .1 .few, f .0 .inside, part-length s from) }, upto (f .0) .1)
+  -- the lines fill their place only behind a record at least
+  some-fed : length out < put + 26 → 0 < at
+  some-fed l = omega (arith, f .rate, l, e)
 
-  stop-of : FedTo room (take (length s - from) (drop from s)) out at put room' out' × StopAt (take (length s - from) (drop from s)) at
-      → Stopped s (from + at) × (put ≤ 65536)
-  stop-of f = (record { inside = upto (f .0) .0 }, upto (f .0) .1)
+done : (c : tie.After-feed Inv-loop μ-loop) → (c .before .before .before .before .loop .from + c .feed .result .at ≤ length (now (c .before .before .before .before .before .before .before .before .args .piece))) × (c .feed .result .put ≤ 65536)
+done c = upto (now (c .before .before .before .before .before .before .before .before .args .piece)) (c .before .before .before .before .loop .from) (c .before .before .before .before .loop .inv .0) (c .before .before .before .before .loop .inv .1 .1 .1) (c .feed .ensures .0)
 
-full : (c : tie.After-at Inv-loop μ-loop) → (c .before .before .before .before .before .before .before .before .before .before .loop .from + c .at .given .0 .0 ≤ length (now (c .before .before .before .before .before .before .before .before .before .before .before .before .before .before .args .piece))) × (c .at .given .0 .1 .0 ≤ 65536) × (0 < c .at .given .0 .0)
-full c = full-of (now (c .before .before .before .before .before .before .before .before .before .before .before .before .before .before .args .piece)) (c .before .before .before .before .before .before .before .before .before .before .loop .from) (c .before .before .before .before .before .before .before .before .before .before .loop .inv .0) (c .before .before .before .before .before .before .before .before .before .before .loop .inv .1 .1 .1) (rw (c .at .given .1) at (c .before .before .before .before .before .before .feed .ensures))
-
-held : (c : tie.After-at2 Inv-loop μ-loop) → Held (now (c .before .before .before .before .before .before .before .before .before .before .before .before .before .before .args .piece)) (c .before .before .before .before .before .before .before .before .before .before .loop .from + c .at2 .given .0 .0) × (c .at2 .given .0 .1 .0 ≤ 65536)
-held c = more-of (now (c .before .before .before .before .before .before .before .before .before .before .before .before .before .before .args .piece)) (c .before .before .before .before .before .before .before .before .before .before .loop .from) (c .before .before .before .before .before .before .before .before .before .before .loop .inv .0) (c .before .before .before .before .before .before .before .before .before .before .loop .inv .1 .1 .1) (rw (c .at2 .given .1) at (c .before .before .before .before .before .before .feed .ensures))
-
-stopped : (c : tie.After-at3 Inv-loop μ-loop) → Stopped (now (c .before .before .before .before .before .before .before .before .before .before .before .before .before .before .args .piece)) (c .before .before .before .before .before .before .before .before .before .before .loop .from + c .at3 .given .0 .0) × (c .at3 .given .0 .1 .0 ≤ 65536)
-stopped c = stop-of (now (c .before .before .before .before .before .before .before .before .before .before .before .before .before .before .args .piece)) (c .before .before .before .before .before .before .before .before .before .before .loop .from) (c .before .before .before .before .before .before .before .before .before .before .loop .inv .0) (c .before .before .before .before .before .before .before .before .before .before .loop .inv .1 .1 .1) (rw (c .at3 .given .1) at (c .before .before .before .before .before .before .feed .ensures))
-
--- src/main.rt:42:5
+-- src/main.rt:43:5
 loop-holds : tie.Need-loop-holds Inv-loop μ-loop
 loop-holds c = (omega arith, (refl, (refl, c .before .before .before .pre)))
 
--- src/main.rt:43:26
+-- src/main.rt:44:30
 sub-feed : tie.Need-sub-feed Inv-loop μ-loop
 sub-feed c = omega (arith, c .before .loop .inv .0)
 
--- src/main.rt:43:26
+-- src/main.rt:44:30
 part-feed-start : tie.Need-part-feed-start Inv-loop μ-loop
 part-feed-start c = omega (arith, c .before .loop .inv .0)
 
--- src/main.rt:43:26
+-- src/main.rt:44:30
 part-feed-end : tie.Need-part-feed-end Inv-loop μ-loop
 part-feed-end c = omega arith
 
--- src/main.rt:43:15
+-- src/main.rt:44:13
 feed-requires : tie.Need-feed-requires Inv-loop μ-loop
 feed-requires c κs = tt
 
--- src/main.rt:44:25
-enum-known-at : tie.Need-enum-known-at Inv-loop μ-loop
-enum-known-at c = search needs
-
--- src/main.rt:45:46
+-- src/main.rt:46:42
 sub-write-all : tie.Need-sub-write-all Inv-loop μ-loop
 sub-write-all c = omega arith
 
--- src/main.rt:45:46
+-- src/main.rt:46:42
 part-write-all-start : tie.Need-part-write-all-start Inv-loop μ-loop
 part-write-all-start c = omega arith
 
--- src/main.rt:45:46
+-- src/main.rt:46:42
 part-write-all-end : tie.Need-part-write-all-end Inv-loop μ-loop
-part-write-all-end c = omega (arith, full (c .before .before), c .before .before .before .before .before .before .before .before .before .before .before .before .loop .inv .1 .1 .1)
+part-write-all-end c = omega (arith, done (c .before .before .before .before .before), c .before .before .before .before .before .before .before .before .before .loop .inv .1 .1 .1)
 
--- src/main.rt:45:17
+-- src/main.rt:46:13
 write-all-requires : tie.Need-write-all-requires Inv-loop μ-loop
 write-all-requires c κs = tt
 
--- src/main.rt:46:17
-add-from : tie.Need-add-from Inv-loop μ-loop
-add-from c = omega (arith, full (c .before .before .before .before))
-
--- src/main.rt:42:5
-loop-less : tie.Need-loop-less Inv-loop μ-loop
-loop-less c = omega (arith, full (c .before .before .before .before))
-
--- src/main.rt:42:5
-loop-again : tie.Need-loop-again Inv-loop μ-loop
-loop-again c = (full (c .before .before .before .before) .0, (omega (arith, c .before .before .before .before .before .before .before .before .before .before .before .before .before .before .loop .inv), (omega (arith, c .before .before .before .before .before .before .before .before .before .before .before .before .before .before .loop .inv), omega (arith, c .before .before .before .before .before .before .before .before .before .before .before .before .before .before .loop .inv))))
-
--- src/main.rt:48:25
-enum-known-at-2 : tie.Need-enum-known-at-2 Inv-loop μ-loop
-enum-known-at-2 c = search needs
-
--- src/main.rt:49:46
-sub-write-all-2 : tie.Need-sub-write-all-2 Inv-loop μ-loop
-sub-write-all-2 c = omega arith
-
--- src/main.rt:49:46
-part-write-all-start-2 : tie.Need-part-write-all-start-2 Inv-loop μ-loop
-part-write-all-start-2 c = omega arith
-
--- src/main.rt:49:46
-part-write-all-end-2 : tie.Need-part-write-all-end-2 Inv-loop μ-loop
-part-write-all-end-2 c = omega (arith, held (c .before .before) .1, c .before .before .before .before .before .before .before .before .before .before .before .before .loop .inv .1 .1 .1)
-
--- src/main.rt:49:17
-write-all-requires-2 : tie.Need-write-all-requires-2 Inv-loop μ-loop
-write-all-requires-2 c κs = tt
-
--- src/main.rt:50:35
-add-t27 : tie.Need-add-t27 Inv-loop μ-loop
-add-t27 c = omega (arith, held (c .before .before .before .before) .0 .inside)
-
--- src/main.rt:50:17
+-- src/main.rt:47:13
 same-length : tie.Need-same-length Inv-loop μ-loop
-same-length c = omega (arith, c .before .before .before .before .before .before .before .before .before .before .before .before .before .before .loop .inv)
+same-length c = omega (arith, c .before .before .before .before .before .before .before .before .before .before .before .before .loop .inv)
 
--- src/main.rt:50:17
+-- src/main.rt:47:13
 same-length-2 : tie.Need-same-length-2 Inv-loop μ-loop
-same-length-2 c = omega (arith, c .before .before .before .before .before .before .before .before .before .before .before .before .before .before .loop .inv)
+same-length-2 c = omega (arith, c .before .before .before .before .before .before .before .before .before .before .before .before .loop .inv)
 
--- src/main.rt:50:17
+-- src/main.rt:47:13
 returns : tie.Need-returns Inv-loop μ-loop
-returns c = held (c .before .before .before .before) .0
+returns c = tt
 
--- src/main.rt:52:25
-enum-known-at-3 : tie.Need-enum-known-at-3 Inv-loop μ-loop
-enum-known-at-3 c = search needs
+-- src/main.rt:49:9
+add-from : tie.Need-add-from Inv-loop μ-loop
+add-from c = omega (arith, done (c .before .before .before .before .before .before .before .before .before))
 
--- src/main.rt:53:46
-sub-write-all-3 : tie.Need-sub-write-all-3 Inv-loop μ-loop
-sub-write-all-3 c = omega arith
+-- src/main.rt:52:26
+enum-told : tie.Need-enum-told Inv-loop μ-loop
+enum-told c = search needs
 
--- src/main.rt:53:46
-part-write-all-start-3 : tie.Need-part-write-all-start-3 Inv-loop μ-loop
-part-write-all-start-3 c = omega arith
-
--- src/main.rt:53:46
-part-write-all-end-3 : tie.Need-part-write-all-end-3 Inv-loop μ-loop
-part-write-all-end-3 c = omega (arith, stopped (c .before .before) .1, c .before .before .before .before .before .before .before .before .before .before .before .before .loop .inv .1 .1 .1)
-
--- src/main.rt:53:17
-write-all-requires-3 : tie.Need-write-all-requires-3 Inv-loop μ-loop
-write-all-requires-3 c κs = tt
-
--- src/main.rt:54:35
-add-t32 : tie.Need-add-t32 Inv-loop μ-loop
-add-t32 c = omega (arith, stopped (c .before .before .before .before) .0 .inside)
-
--- src/main.rt:54:17
+-- src/main.rt:52:26
 same-length-3 : tie.Need-same-length-3 Inv-loop μ-loop
-same-length-3 c = omega (arith, c .before .before .before .before .before .before .before .before .before .before .before .before .before .before .loop .inv)
+same-length-3 c = omega (arith, c .before .before .before .before .before .before .before .before .before .before .before .before .before .before .before .loop .inv)
 
--- src/main.rt:54:17
+-- src/main.rt:52:26
 same-length-4 : tie.Need-same-length-4 Inv-loop μ-loop
-same-length-4 c = omega (arith, c .before .before .before .before .before .before .before .before .before .before .before .before .before .before .loop .inv)
+same-length-4 c = omega (arith, c .before .before .before .before .before .before .before .before .before .before .before .before .before .before .before .loop .inv)
 
--- src/main.rt:54:17
+-- src/main.rt:52:26
 returns-2 : tie.Need-returns-2 Inv-loop μ-loop
-returns-2 c = stopped (c .before .before .before .before) .0
+returns-2 c = held (now (c .before .before .before .before .before .before .before .before .before .before .before .before .before .before .before .before .before .before .before .args .piece)) (c .before .before .before .before .before .before .before .before .before .before .before .before .before .before .before .loop .from) (c .before .before .before .before .before .before .before .before .before .before .before .before .before .before .before .loop .inv .0) (c .before .before .before .before .before .before .before .before .before .before .before .before .before .before .before .loop .inv .1 .1 .1) (c .before .before .before .before .before .before .before .before .before .before .before .feed .ensures .0) (rw (c .enum-told .given .1) at (c .before .before .before .before .before .before .before .before .before .before .before .feed .ensures .1))
+
+-- src/main.rt:53:26
+enum-told-2 : tie.Need-enum-told-2 Inv-loop μ-loop
+enum-told-2 c = search needs
+
+-- src/main.rt:53:26
+same-length-5 : tie.Need-same-length-5 Inv-loop μ-loop
+same-length-5 c = omega (arith, c .before .before .before .before .before .before .before .before .before .before .before .before .before .before .before .loop .inv)
+
+-- src/main.rt:53:26
+same-length-6 : tie.Need-same-length-6 Inv-loop μ-loop
+same-length-6 c = omega (arith, c .before .before .before .before .before .before .before .before .before .before .before .before .before .before .before .loop .inv)
+
+-- src/main.rt:53:26
+returns-3 : tie.Need-returns-3 Inv-loop μ-loop
+returns-3 c = record { inside = done (c .before .before .before .before .before .before .before .before .before .before .before) .0 }
+
+enum-told-3 : tie.Need-enum-told-3 Inv-loop μ-loop
+enum-told-3 c = search needs
+
+-- src/main.rt:43:5
+loop-less : tie.Need-loop-less Inv-loop μ-loop
+loop-less c = omega (arith, done (c .before .before .before .before .before .before .before .before .before .before .before), some-fed (now (c .before .before .before .before .before .before .before .before .before .before .before .before .before .before .before .before .before .before .before .args .piece)) (c .before .before .before .before .before .before .before .before .before .before .before .before .before .before .before .loop .from) (c .before .before .before .before .before .before .before .before .before .before .before .before .before .before .before .loop .inv .0) (c .before .before .before .before .before .before .before .before .before .before .before .before .before .before .before .loop .inv .1 .1 .1) (c .before .before .before .before .before .before .before .before .before .before .before .feed .ensures .0) (rw (c .enum-told3 .given .1) at (c .before .before .before .before .before .before .before .before .before .before .before .feed .ensures .1)))
+
+-- src/main.rt:43:5
+loop-again : tie.Need-loop-again Inv-loop μ-loop
+loop-again c = (done (c .before .before .before .before .before .before .before .before .before .before .before) .0, (omega (arith, c .before .before .before .before .before .before .before .before .before .before .before .before .before .before .before .loop .inv), (omega (arith, c .before .before .before .before .before .before .before .before .before .before .before .before .before .before .before .loop .inv), omega (arith, c .before .before .before .before .before .before .before .before .before .before .before .before .before .before .before .loop .inv))))
 
 pub play-piece-spec : {M : Type 1} → statement M
 play-piece-spec =
@@ -186,29 +147,22 @@ play-piece-spec =
     part-feed-start
     part-feed-end
     feed-requires
-    enum-known-at
     sub-write-all
     part-write-all-start
     part-write-all-end
     write-all-requires
-    add-from
-    loop-less
-    loop-again
-    enum-known-at-2
-    sub-write-all-2
-    part-write-all-start-2
-    part-write-all-end-2
-    write-all-requires-2
-    add-t27
     same-length
     same-length-2
     returns
-    enum-known-at-3
-    sub-write-all-3
-    part-write-all-start-3
-    part-write-all-end-3
-    write-all-requires-3
-    add-t32
+    add-from
+    enum-told
     same-length-3
     same-length-4
-    returns-2)
+    returns-2
+    enum-told-2
+    same-length-5
+    same-length-6
+    returns-3
+    enum-told-3
+    loop-less
+    loop-again)

@@ -60,6 +60,8 @@ fn the_longest_key() {
     story.then(write(b'A', &[&longer]), "4 0");
     story.then(write(b'A', &[&longer[..1], &longer]), "4 0");
     story.then(Call::Reads(id_of(b'A'), list_of(&[&longer])), "4 0");
+    // The whole form is judged first.
+    story.then(Call::Reads(id_of(b'A'), [list_of(&[&longer]), vec![0x4b, 0]].concat()), "2 0");
     story.then(Call::Range(id_of(b'A'), from(&longer)), "4 0");
     story.then(Call::Batch(list_of(&[&longer]), 9), "4 0");
     story.then(write(b'Z', &[&longer]), "4 0");
@@ -69,7 +71,7 @@ fn the_longest_key() {
     story.then(Call::Batch(list_of(&[&longest]), 9), "0 9");
     story.then(Call::Check(id_of(b'A')), "0 1");
     story.then(Call::Range(id_of(b'A'), from(&longest)), "0 1");
-    story.told(14);
+    story.told(15);
 }
 
 /// "32nd begin done, 33rd status 6; repeating an active id with 32 active is 3."
