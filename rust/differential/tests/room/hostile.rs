@@ -66,7 +66,10 @@ fn one_byte_changed_anywhere() {
     }
     println!("{:?}", met);
     assert_eq!(met.refused + met.served, 2 * SIZE as u64);
-    assert!(met.refused > 100 && met.served > SIZE as u64, "bytes in the record and bytes behind it");
+    assert!(
+        met.refused > 100 && met.served > SIZE as u64,
+        "bytes in the record and bytes behind it"
+    );
 }
 
 #[test]
