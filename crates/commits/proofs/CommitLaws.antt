@@ -64,7 +64,7 @@ module _ {s : List ℕ} {v : View} (w : Seen s v) {id : Bytes} {seq : ℕ} where
         let st = w .state in
         let y = advance-changed (st .active) (st .entries) x (view-last w) b (w .entries) (w .active) (view-laid w) in
         let c = subst (λ (l : ℕ). Changed s s' (state l (st .active) (st .entries))) (advances w seq) (y .0) in
-        rw (y .1, advances w seq) (change-absent s s' st _ (commit id seq) (seen-load w) c _ (commit-absent base st id seq h (not-found w f)))
+        rw (y .1, advances w seq) (change-absent s s' st _ (commit id seq) (seen-load w) c _ refl (commit-absent base st id seq h (not-found w f)))
 
     module _ {p q : ℕ} (f : Found s (v .middle) (v .active) id (Place.Here p q)) where
       pub commit-only : {r : ℕ} {s' : List ℕ} → v .active ≡ 1 → r ≡ max (v .last) seq → s' ≡ paste s 0 (headForm .write (freshHead r)) 20 → seq < 256 ^ 8 → Served s (on (commit id seq)) 0 r s'

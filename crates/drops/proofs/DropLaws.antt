@@ -42,7 +42,7 @@ module _ {s : List ℕ} {v : View} (w : Seen s v) {id : Bytes} where
         let st = w .state in
         let y = x .is (st .entries) (st .active) (seen-unpruned w) (sym (w .entries)) (sym (w .active)) in
         let c : Changed s s' (state (st .last) (st .active) (prune (st .active) (st .entries))) = said-last (w .last) (y .changed) in
-        rw (y .count) (change-absent s s' st _ (dropTxn id) (seen-load w) c _ (drop-absent base st id _ h (not-found w f) refl))
+        rw (y .count) (change-absent s s' st _ (dropTxn id) (seen-load w) c _ refl (drop-absent base st id _ h (not-found w f) refl))
 
     module _ {p q : ℕ} {s1 s2 : List ℕ} (f : Found s (v .middle) (v .active) id (Place.Here p q)) (x : Spliced s (v .used) p (q - p) [] s1) (e : s2 ≡ paste s1 18 (number 2 .write (v .active - 1)) 2) where
       pub drop-prunable : Prunable s2 (v .last) (v .entries) (v .active - 1) (v .middle) (v .used - (q - p))

@@ -3,6 +3,7 @@ use mathlib.Core.Bool.{Bool}
 use mathlib.Core.Ordering.{Ordering}
 use Rattle.keys.specs.Order.{sign}
 use Rattle.kinds.specs.declared.kind.Kind.{Kind}
+use Rattle.kinds.specs.declared.kind.Kind.the-variants.{Unbounded}
 use Rattle.made.specs.declared.Making.{Making}
 use Rattle.made.specs.declared.Making.the-variants.{Done, TooLong, Empty}
 use Rattle.made.specs.declared.Made.{Made}
@@ -20,10 +21,14 @@ compared o = record { status = 0; order = sign o }
 abbrev pub told : Bool → Told
 told b = record { status = 0; holds = b }
 
+-- "length 0 and unbounded when refused"
+abbrev pub refusedRange : Making → NewRange
+refusedRange m = record { status = status m; «start_kind» = kindNumber Unbounded; «end_kind» = kindNumber Unbounded }
+
 abbrev pub newRange : Making → Kind → Kind → NewRange
-newRange Done a b = record { status = 0; «start_kind» = kindNumber a; «end_kind» = kindNumber b }
-newRange TooLong a b = record { status = 4; «start_kind» = 16; «end_kind» = 16 }
-newRange Empty a b = record { status = 5; «start_kind» = 16; «end_kind» = 16 }
+newRange Done a b = record { status = status Done; «start_kind» = kindNumber a; «end_kind» = kindNumber b }
+newRange TooLong a b = refusedRange TooLong
+newRange Empty a b = refusedRange Empty
 
 abbrev pub madeKey : Made → MadeKey
 madeKey m = record { status = status (m .making); key = key (m .bound) }

@@ -1,24 +1,22 @@
 -- What a room may hold is exactly a machine state whose last number fits eight bytes: the whole state.
-use Prim.Native.Nat.{ℕ, suc, _+_, _≤_, _<_, _^_, max}
-use mathlib.Core.Path.{_≡_, refl, sym, ap, _∙_}
-use mathlib.Core.Bool.{Bool, true, false, _&&_, and-eq-true-iff}
-use mathlib.Core.List.{List, [], _∷_, _++_}
+use Prim.Native.Nat.{ℕ, _≤_, _<_, _^_}
+use mathlib.Core.Path.{_≡_, refl, ap}
+use mathlib.Core.Bool.{true, _&&_, and-eq-true-iff}
+use mathlib.Core.List.{List, [], _∷_}
 use mathlib.Core.Option.{Option, none, some}
-use mathlib.Core.Ordering.{Ordering, lt, eq, gt}
-use mathlib.Core.Logic.{_↔_}
 use native.Mathlib.Omega.{arith}
-use borrow.Author.Tests.{leb-true, le-leb, eq-eqb}
-use lib.Dec.{leb, eqb}
+use borrow.Author.Tests.{leb-true, le-leb}
+use lib.Dec.{leb}
 use lib.ListN.{length}
 use Rattle.keys.specs.Order.{order, isLess}
 use Rattle.machine.specs.Lists.{sum, All}
-use Rattle.machine.specs.State.{Bytes, Txn, Entry, State, Ceilings, base, fits, Fits, Above, Ascends, ids, TxnOk, EntryOk, MachineState, marks, txnMarks, entryMarks}
+use Rattle.machine.specs.State.{Txn, Entry, State, Ceilings, base, fits, Above, Ascends, ids, TxnOk, EntryOk, MachineState, marks, txnMarks, entryMarks}
 use Rattle.machine.proofs.Kept.{fits-means}
-use Rattle.codec.specs.Codec.{Codec, RunOk, fine}
+use Rattle.codec.specs.Codec.{RunOk}
 use Rattle.codec.specs.Formats.{number, bind, only, via, run}
-use Rattle.layout.specs.Keys.{below, anyOrder}
-use Rattle.layout.specs.Records.{entryForm, txnForm, entriesForm, activeForm, belowId, headForm, stamp}
-use Rattle.layout.specs.States.{plainForm, headOf, highest, seqOf, startOf, inTime, idle, sound, stateForm}
+use Rattle.layout.specs.Keys.{anyOrder}
+use Rattle.layout.specs.Records.{entryForm, txnForm, entriesForm, activeForm, belowId, headForm}
+use Rattle.layout.specs.States.{plainForm, highest, seqOf, startOf, inTime, idle, sound, stateForm}
 use Rattle.layout.proofs.MachineLaws.{less-lt, entry-ok, ok-entry, txn-ok, ok-txn}
 
 -- the greatest of a list is at most n exactly when each is

@@ -5,4 +5,6 @@ pub mod SizeLaws
 pub mod MachineLaws
 pub mod HoldLaws
 pub mod LoadLaws
+pub mod FrontLaws
+pub mod DemandOne
 pub mod RoomTheorems

@@ -1,23 +1,22 @@
 -- What a room holds, and the contract of a call from what the machine answers: one law for each way a call ends.
-use Prim.Native.Nat.{ℕ, _+_, _≤_, _<_, _^_}
+use Prim.Native.Nat.{ℕ, _≤_, _<_, _^_}
 use mathlib.Core.Path.{_≡_, refl, sym, ap, _∙_, subst}
-use mathlib.Core.Bool.{Bool, true, false, cond}
-use mathlib.Core.List.{List, [], _∷_, _++_}
+use mathlib.Core.Bool.{Bool, true, false, cond, true≢false}
+use mathlib.Core.List.{List, [], _++_}
 use mathlib.Core.Logic.{_⊎_, inl, inr}
 use native.Mathlib.Omega.{arith}
 use borrow.Author.Tests.{lt-ltb, le-ltb, ltb-false}
 use lib.Dec.{ltb}
-use lib.ListN.{length, take, drop}
+use lib.ListN.{length, drop}
 use Rattle.machine.specs.State.{State, Ceilings, base, MachineState}
-use Rattle.machine.specs.Calls.{Op, Call, fresh, on, Room, short, broken, holding, Refusal, number, Answer, done, absent, refused, Reply, replied, reply}
+use Rattle.machine.specs.Calls.{Op, Call, fresh, on, isCommitOrDrop, Room, short, broken, holding, Refusal, number, Answer, done, absent, refused, replied, reply}
 use Rattle.machine.specs.Serve.{state, answer, serve}
 use Rattle.machine.proofs.Kept.{RoomOk, fresh-ok, serve-keeps}
-use Rattle.codec.specs.Codec.{Item, item, cut, Codec}
+use Rattle.codec.specs.Codec.{Item, item, cut}
 use Rattle.codec.specs.Formats.{only}
-use Rattle.codec.specs.Places.{Stands}
 use Rattle.layout.specs.States.{plainForm, stateForm, roomSize}
-use Rattle.layout.specs.Rooms.{inRoom, load, ServedBy, Served}
-use Rattle.layout.proofs.HoldLaws.{Small, base-small, machine-holds, holds-machine}
+use Rattle.layout.specs.Rooms.{inRoom, load, Served}
+use Rattle.layout.proofs.HoldLaws.{base-small, machine-holds, holds-machine}
 
 -- the bytes begin with the record of a state
 pub record Writes (s : List ℕ) (st : State) : Type 0 where
@@ -71,7 +70,7 @@ held s st e = go (ltb (length s) (roomSize base)) refl (stateForm base .read s) 
 -- ---- a call leaves the room as it is
 
 same-room : (s : List ℕ) (c : Call) (status value : ℕ) → serve base (load base s) c ≡ replied status value (load base s) → Served s c status value s
-same-room s c status value e = record { answers = e; kept = λ h. refl; beyond = refl; size = refl }
+same-room s c status value e = record { answers = e; kept = λ h. refl; absent = λ h k. refl; beyond = refl; size = refl }
 
 pub no-state : (s : List ℕ) (c : Op) → (load base s ≡ short) ⊎ (load base s ≡ broken) → Served s (on c) 7 0 s
 unfolding serve
@@ -115,13 +114,13 @@ module _ (s s' : List ℕ) (st st' : State) (c : Op) (h : load base s ≡ holdin
   unfolding serve
   change v e =
       let f : serve base (holding st) (on c) .room ≡ holding st' = ap (λ (x : Answer). reply st x .room) e in
-      record { answers = rw (h, e, after f); kept = λ k. absurd (omega (arith, k)); beyond = w .beyond; size = w .size }
+      record { answers = rw (h, e, after f); kept = λ k. absurd (omega (arith, k)); absent = λ k d. absurd (omega (arith, k)); beyond = w .beyond; size = w .size }
 
-  pub change-absent : (v : ℕ) → answer base st c ≡ absent v st' → Served s (on c) 1 v s'
+  pub change-absent : (v : ℕ) → isCommitOrDrop (on c) ≡ true → answer base st c ≡ absent v st' → Served s (on c) 1 v s'
   unfolding serve
-  change-absent v e =
+  change-absent v d e =
       let f : serve base (holding st) (on c) .room ≡ holding st' = ap (λ (x : Answer). reply st x .room) e in
-      record { answers = rw (h, e, after f); kept = λ k. absurd (omega (arith, k)); beyond = w .beyond; size = w .size }
+      record { answers = rw (h, e, after f); kept = λ k. absurd (omega (arith, k)); absent = λ k g. absurd (true≢false (sym d ∙ g)); beyond = w .beyond; size = w .size }
 
 not-short : (L : Ceilings) (room : Room) (n : ℕ) → (room ≡ short → ⊥) → serve L room (fresh n) ≡ replied 0 n (holding (state n [] []))
 unfolding serve
@@ -134,6 +133,7 @@ make-fresh s s' n h w =
     record {
       answers = not-short base (load base s) n long ∙ ap (replied 0 n) (sym (load-writes s' (omega (arith, h, w .size)) (state n [] []) (w .writes) (fresh-ok base n) (w .last)));
       kept = λ k. absurd (omega (arith, k));
+      absent = λ k d. absurd (omega (arith, k));
       beyond = w .beyond;
       size = w .size;
     }

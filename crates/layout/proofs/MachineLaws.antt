@@ -1,28 +1,23 @@
 -- What a room may hold is exactly a machine state whose last number fits eight bytes.
-use Prim.Native.Nat.{ℕ, suc, _+_, _≤_, _<_, _^_, max}
-use mathlib.Core.Path.{_≡_, refl, sym, ap, _∙_}
-use mathlib.Core.Bool.{Bool, true, false, _&&_}
-use mathlib.Core.List.{List, [], _∷_, _++_}
+use Prim.Native.Nat.{ℕ, _≤_, _<_, _^_}
+use mathlib.Core.Path.{_≡_, refl, ap}
+use mathlib.Core.Bool.{true}
+use mathlib.Core.List.{List, [], _∷_}
 use mathlib.Core.Option.{Option, none, some}
 use mathlib.Core.Ordering.{Ordering, lt, eq, gt}
-use mathlib.Core.Logic.{_↔_}
 use native.Mathlib.Omega.{arith}
 use borrow.Author.Tests.{leb-true, le-leb}
-use lib.Dec.{leb, eqb}
 use lib.ListN.{length}
 use Rattle.keys.specs.Order.{order, isLess}
 use Rattle.kinds.specs.Bounds.{Bound, unbounded, included, excluded}
-use Rattle.bounds.specs.Ranges.{Range, notEmpty}
-use Rattle.made.specs.Making.{keyOf, kindOf}
-use Rattle.fields.specs.Forms.{boundTag}
-use Rattle.machine.specs.Lists.{sum, All}
-use Rattle.machine.specs.State.{Bytes, Txn, Entry, State, Ceilings, base, fits, Fits, Above, Ascends, ids, SetOk, RangeOk, TxnOk, EntryOk, MachineState, marks, txnMarks, entryMarks}
-use Rattle.machine.proofs.Kept.{fits-means}
-use Rattle.codec.specs.Codec.{Codec, RunOk, fine}
+use Rattle.bounds.specs.Ranges.{Range}
+use Rattle.made.specs.Making.{keyOf}
+use Rattle.machine.specs.Lists.{All}
+use Rattle.machine.specs.State.{Bytes, Txn, Entry, Ceilings, fits, Above, Ascends, SetOk, RangeOk, TxnOk, EntryOk, txnMarks, entryMarks}
+use Rattle.codec.specs.Codec.{RunOk}
 use Rattle.codec.specs.Formats.{number, raw, bind, only, via, run}
-use Rattle.layout.specs.Keys.{keyForm, listForm, setForm, below, anyOrder, isTag, tagLimit, boundForm, pairForm, rangeForm, rangesForm}
-use Rattle.layout.specs.Records.{entryForm, txnForm, entriesForm, activeForm, belowId, headForm, stamp}
-use Rattle.layout.specs.States.{plainForm, headOf, highest, seqOf, startOf, inTime, idle, sound, stateForm}
+use Rattle.layout.specs.Keys.{keyForm, listForm, setForm, below, anyOrder, boundForm, pairForm, rangeForm, rangesForm}
+use Rattle.layout.specs.Records.{entryForm, txnForm}
 
 -- ---- keys and sets
 

@@ -1,6 +1,6 @@
 -- The parts of each kind of record at a place.
-use Prim.Native.Nat.{ℕ, _+_, _-_, _≤_, _<_}
-use mathlib.Core.Path.{_≡_, refl, sym, ap, _∙_}
+use Prim.Native.Nat.{ℕ, _+_, _≤_}
+use mathlib.Core.Path.{_≡_, refl}
 use mathlib.Core.Bool.{Bool, true}
 use mathlib.Core.List.{List}
 use native.Mathlib.Omega.{arith}
@@ -12,14 +12,13 @@ use Rattle.kinds.specs.Bounds.{Bound}
 use Rattle.bounds.specs.Ranges.{Range, notEmpty, range}
 use Rattle.made.specs.Making.{keyOf, kindOf}
 use Rattle.fields.specs.Forms.{boundTag}
-use Rattle.machine.specs.State.{Bytes, Txn, Entry, State}
+use Rattle.machine.specs.State.{Bytes, Txn, Entry}
 use Rattle.codec.specs.Codec.{Codec}
-use Rattle.codec.specs.Formats.{number, raw, bind, only, via, run}
-use Rattle.codec.specs.Places.{Stands}
+use Rattle.codec.specs.Formats.{number, raw, bind, only, run}
 use Rattle.layout.specs.Keys.{KeyRaw, key-same, keyForm, ListRaw, list-same, listForm, setForm, below, anyOrder, isTag, tagLimit, tagged, boundAs, BoundRaw, bound-back, bound-same, boundForm, RangeRaw, pairForm, rangeForm, rangesForm}
 use Rattle.layout.specs.Records.{entryForm, TxnRaw, toTxn, ofTxn, txnForm}
 use Rattle.layout.specs.Places.{Part, Row}
-use Rattle.layout.proofs.PartLaws.{part-ok, both, Both, through, tested, number-end, number-read-is, raw-slice}
+use Rattle.layout.proofs.PartLaws.{part-ok, both, through, tested, number-end, raw-slice}
 use Rattle.layout.proofs.RowLaws.{run-row}
 
 pub record OpenKey (m : ℕ) (s : List ℕ) (at : ℕ) (k : Bytes) (e : ℕ) : Type 0 where

@@ -1,14 +1,12 @@
 -- What a record at a place is, for any format: its bytes, its one value, and the parts that it is made of.
-use Prim.Native.Nat.{ℕ, suc, _+_, _-_, _≤_, _<_, _^_}
-use mathlib.Core.Path.{_≡_, refl, sym, ap, ap₂, _∙_}
+use Prim.Native.Nat.{ℕ, _+_, _-_, _≤_}
+use mathlib.Core.Path.{_≡_, refl, sym, ap, _∙_}
 use mathlib.Core.Bool.{Bool, true}
-use mathlib.Core.List.{List, [], _∷_, _++_, append-assoc}
+use mathlib.Core.List.{List, _++_, append-assoc}
 use native.Mathlib.Omega.{arith}
-use native.Mathlib.Numerals.{add-one}
-use lib.ListN.{length, take, drop, length-append, length-drop}
-use lib.Seq.{slice, take-append-seam, take-at, drop-drop, drop-at}
-use Rattle.codec.specs.Codec.{Item, item, cut, Codec, onItem, guard, writeRun}
-use Rattle.codec.specs.CodecLaws.{came, Came, guarded}
+use lib.ListN.{length, drop, length-append, length-drop}
+use lib.Seq.{slice, take-append-seam, drop-drop, drop-at}
+use Rattle.codec.specs.Codec.{item, Codec}
 use Rattle.codec.specs.Formats.{number, raw, bind, only, via}
 use Rattle.codec.specs.Places.{Stands}
 use Rattle.codec.proofs.RecordLaws.{stands-length}

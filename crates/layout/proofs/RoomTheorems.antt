@@ -1,5 +1,5 @@
 -- The demands on rooms of bytes, for every call that keeps the one contract.
-use Prim.Native.Nat.{ℕ, _≤_, _<_}
+use Prim.Native.Nat.{ℕ, _≤_}
 use mathlib.Core.Path.{_≡_, refl, sym, ap, _∙_, subst}
 use mathlib.Core.List.{List, [], _∷_, map}
 use mathlib.Core.Bool.{Bool, true, false}
@@ -15,11 +15,15 @@ use Rattle.machine.specs.Rust.{Unrefused, rustRun, manager}
 use Rattle.machine.proofs.Stays.{stays-said}
 use Rattle.machine.proofs.RustAgrees.{Equals, demand-2}
 use Rattle.layout.specs.Rooms.{load, ServedBy}
-use Rattle.layout.specs.Runs.{Then, Passed, Alike}
+use Rattle.layout.specs.Runs.{Passed, Alike}
+use Rattle.layout.specs.Demands.{Demand1}
+use Rattle.layout.proofs.HoldLaws.{Small}
+use Rattle.layout.proofs.FrontLaws.{same-front}
+use Rattle.layout.proofs.DemandOne.{demand-1}
 
 module _ (L : Ceilings) where
   -- "any two results allowed for one call are equal", but for unused bytes
-  pub one-result : (room : List ℕ) (c : Call) (s v : ℕ) (r : List ℕ) (s' v' : ℕ) (r' : List ℕ) → ServedBy L room c s v r → ServedBy L room c s' v' r' → Alike L s v r s' v' r'
+  pub one-result : (room : List ℕ) (c : Call) (s v : ℕ) (r : List ℕ) (s' v' : ℕ) (r' : List ℕ) → ServedBy L room c s v r → ServedBy L room c s' v' r' → Alike L c s v r s' v' r'
   one-result room c s v r s' v' r' a b =
       let e : replied s v (load L r) ≡ replied s' v' (load L r') = sym (a .answers) ∙ b .answers in
       record {
@@ -27,9 +31,15 @@ module _ (L : Ceilings) where
         values = ap (λ (x : Reply). x .value) e;
         states = ap (λ (x : Reply). x .room) e;
         refused = λ h. a .kept h ∙ sym (b .kept (subst (λ (n : ℕ). 2 ≤ n) (ap (λ (x : Reply). x .status) e) h));
+        absent = λ h k. a .absent h k ∙ sym (b .absent (sym (ap (λ (x : Reply). x .status) e) ∙ h) k);
         beyond = a .beyond ∙ sym (b .beyond);
         size = a .size ∙ sym (b .size);
       }
+
+  -- demand 1: any bytes, ids, sequences and room; the status is the table's, given exactly when the table says, with its value
+  -- and its bytes
+  pub room-demand-1 : Small L → (room : List ℕ) (c : Call) (s v : ℕ) (room' : List ℕ) → ServedBy L room c s v room' → Demand1 L room c s v room'
+  room-demand-1 small = demand-1 L small
 
   -- a check that answers 1 is done
   one-done : (room : Room) (i : Bytes) → serve L room (on (check i)) .value ≡ 1 → serve L room (on (check i)) .status ≡ 0
@@ -47,9 +57,10 @@ module _ (L : Ceilings) where
   -- a run of calls on a room goes as the machine goes
   passed-run : (w : World) (room : List ℕ) (cs : List Call) (room' : List ℕ) → load L room ≡ w .room → Passed L room cs room' → load L room' ≡ run L w cs .room
   unfolding run
-  passed-run w room [] room' e p = ap (load L) p ∙ e
+  passed-run w room [] room' e p = same-front L room' room p ∙ e
   passed-run w room (c ∷ cs) room' e p =
-      let f : load L (p .left) ≡ serve L (w .room) c .room = sym (ap (λ (x : Reply). x .room) (p .served .answers)) ∙ ap (λ (x : Room). serve L x c .room) e in
+      let g : load L (p .lent) ≡ w .room = same-front L (p .lent) room (p .same) ∙ e in
+      let f : load L (p .left) ≡ serve L (w .room) c .room = sym (ap (λ (x : Reply). x .room) (p .served .answers)) ∙ ap (λ (x : Room). serve L x c .room) g in
       passed-run (next L w c) (p .left) cs room' f (p .rest)
 
   -- a room that fresh answered 0
@@ -67,10 +78,10 @@ module _ (L : Ceilings) where
     holds-run = passed-run (start n) made cs room fresh-holds p
 
     -- "A room made fresh, written only by the calls and passed whole never gets 7."
-    pub room-never-7 : (c : Call) (s u : ℕ) (after : List ℕ) → ServedBy L room c s u after → s < 7
+    pub room-never-7 : (c : Call) (s u : ℕ) (after : List ℕ) → ServedBy L room c s u after → s ≡ 7 → ⊥
     room-never-7 c s u after a =
         let e : serve L (run L (start n) cs .room) c .status ≡ s = ap (λ (x : Room). serve L x c .status) (sym holds-run) ∙ ap (λ (x : Reply). x .status) (a .answers) in
-        subst (λ (k : ℕ). k < 7) e (never-7 L n cs c)
+        λ q. never-7 L n cs c (e ∙ q)
 
     -- demand 3: a check of an active transaction says conflict exactly when the full record says so
     pub room-demand-3 : (i : Bytes) (t : Txn) (s u : ℕ) (after : List ℕ) → find i (activeOf (load L room)) ≡ some t → ServedBy L room (on (check i)) s u after

@@ -1,18 +1,17 @@
 -- Rows of records: their bytes, their one reading, and how they are cut and joined.
-use Prim.Native.Nat.{ℕ, zero, suc, _+_, _-_, _≤_, _<_}
+use Prim.Native.Nat.{ℕ, _+_, _-_, _≤_}
 use mathlib.Core.Path.{_≡_, refl, sym, ap, ap₂, _∙_}
-use mathlib.Core.Bool.{Bool, true}
+use mathlib.Core.Bool.{Bool}
 use mathlib.Core.List.{List, [], _∷_, _++_, append-assoc}
 use mathlib.Core.Option.{Option, none, some}
 use native.Mathlib.Omega.{arith}
 use native.Mathlib.Nat.{add-zero}
-use lib.ListN.{length, take, drop, length-append, length-drop}
+use lib.ListN.{length, drop, length-append, length-drop}
 use lib.Seq.{slice, take-append-seam, drop-drop, drop-at}
-use Rattle.codec.specs.Codec.{item, Codec, writeRun, RunOk}
+use Rattle.codec.specs.Codec.{Codec, writeRun, RunOk}
 use Rattle.codec.specs.Formats.{run}
-use Rattle.codec.specs.Places.{Stands}
 use Rattle.moves.proofs.SpliceLaws.{drop-take}
-use Rattle.layout.specs.Places.{Part, Next, Row, Rows}
+use Rattle.layout.specs.Places.{Part, Row, Rows}
 use Rattle.layout.proofs.PartLaws.{part-bytes, part-of, part-end, part-one}
 
 module _ {A : Type 0} (C : Codec A) where

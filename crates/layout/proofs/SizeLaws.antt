@@ -1,7 +1,6 @@
 -- How many bytes each record takes, and that every state within the ceilings fits the published size.
 use Prim.Native.Nat.{ℕ, _+_, _*_, _≤_}
-use mathlib.Core.Path.{_≡_, refl, sym, ap, _∙_}
-use mathlib.Core.Bool.{Bool}
+use mathlib.Core.Path.{_≡_, refl, _∙_}
 use mathlib.Core.List.{List, [], _∷_, _++_}
 use native.Mathlib.Omega.{arith}
 use lib.ListN.{length, length-append}
@@ -10,11 +9,10 @@ use Rattle.bounds.specs.Ranges.{Range}
 use Rattle.made.specs.Making.{keyOf, kindOf}
 use Rattle.fields.specs.Forms.{boundTag}
 use Rattle.machine.specs.Lists.{sum, All}
-use Rattle.machine.specs.State.{Bytes, Txn, Entry, State, Ceilings, Fits, TxnOk, MachineState, setBytes, rangeBytes, txnBytes, entryBytes, txnMarks, entryMarks, marks, keyBytes}
-use Rattle.codec.specs.Codec.{Codec, writeRun}
+use Rattle.machine.specs.State.{Bytes, Txn, Entry, State, Ceilings, Fits, TxnOk, MachineState, setBytes, rangeBytes, txnBytes, entryBytes, txnMarks, entryMarks, marks}
+use Rattle.codec.specs.Codec.{writeRun}
 use Rattle.codec.specs.Formats.{number, raw, bind, only, via, run}
 use Rattle.codec.proofs.NumberLaws.{length-number}
-use Rattle.codec.proofs.RecordLaws.{length-bind}
 use Rattle.layout.specs.Keys.{keyForm, listForm, setForm, boundForm, pairForm, rangeForm, rangesForm}
 use Rattle.layout.specs.Records.{entryForm, txnForm, entriesForm, activeForm, Head, headForm}
 use Rattle.layout.specs.States.{plainForm, headOf, roomSize}

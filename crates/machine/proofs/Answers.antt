@@ -1,15 +1,16 @@
 -- Document 01's rows 0 and 1: the value that is answered then, and what the room holds after it.
-use Prim.Native.Nat.{ℕ, _+_, _-_, _≤_, max}
+use Prim.Native.Nat.{ℕ, _+_, _-_, _≤_}
 use mathlib.Core.Path.{_≡_, refl, sym, ap, _∙_}
 use mathlib.Core.List.{[], _∷_}
 use mathlib.Core.Option.{some}
 use native.Mathlib.Omega.{arith}
 use lib.ListN.{length, length-append}
 use Rattle.machine.specs.State.{Bytes, Txn, State, Ceilings, txnMarks, marks, MachineState}
-use Rattle.machine.specs.Sets.{find, least, prune, conflict}
-use Rattle.machine.specs.Calls.{Op, begin, trackWrites, trackReads, trackRange, check, commit, batch, dropTxn, minimum, Call, fresh, on, Room, short, broken, holding, Answer, Reply, replied, reply}
-use Rattle.machine.specs.Serve.{state, newTxn, verdict, answer, serve}
+use Rattle.machine.specs.Sets.{find}
+use Rattle.machine.specs.Calls.{Op, Call, fresh, on, Room, short, broken, holding, Answer, Reply, replied, reply}
+use Rattle.machine.specs.Serve.{state, newTxn, answer, serve}
 use Rattle.machine.specs.Table.{tracking}
+use Rattle.machine.specs.Words.{DoneValue, absentValue, absentState}
 use Rattle.machine.proofs.SetLaws.{insertAll-longer}
 use Rattle.machine.proofs.ActiveLaws.{find-id, put-finds, put-known-sum, without-same}
 use Rattle.machine.proofs.Kept.{RoomOk, refusal-number}
@@ -18,27 +19,13 @@ use Rattle.machine.proofs.Effects.{Effect, effect}
 
 -- ---------------------------------------------------------------- status 1
 
--- "Status 1 leaves the room unchanged except as commit and drop say."; "commit: last number after; drop: entries kept;
--- else 0"
-abbrev pub absentReply : Op → State → Reply
-absentReply (begin i) s = replied 1 0 (holding s)
-absentReply (trackWrites i bs) s = replied 1 0 (holding s)
-absentReply (trackReads i bs) s = replied 1 0 (holding s)
-absentReply (trackRange i bs) s = replied 1 0 (holding s)
-absentReply (check i) s = replied 1 0 (holding s)
-absentReply (commit i n) s = replied 1 (max (s .last) n) (holding (state (max (s .last) n) (s .active) (s .entries)))
-absentReply (batch n bs) s = replied 1 0 (holding s)
-absentReply (dropTxn i) s =
-    let kept = prune (s .active) (s .entries) in
-    replied 1 (length kept) (holding (state (s .last) (s .active) kept))
-absentReply minimum s = replied 1 0 (holding s)
-
 pub absent-changes : (L : Ceilings) (s : State) (c : Op) → serve L (holding s) (on c) .status ≡ 1
-    → serve L (holding s) (on c) ≡ absentReply c s
+    → serve L (holding s) (on c) ≡ replied 1 (absentValue c s) (holding (absentState c s))
 unfolding serve
 absent-changes L s c e = of-effect c (answer L s c) (effect L s c) e
   where
-    of-effect : (c : Op) (x : Answer) → Effect L s c x → reply s x .status ≡ 1 → reply s x ≡ absentReply c s
+    of-effect : (c : Op) (x : Answer) → Effect L s c x → reply s x .status ≡ 1
+        → reply s x ≡ replied 1 (absentValue c s) (holding (absentState c s))
     of-effect c _ (E.refuses r) e = absurd (omega (arith, refusal-number r .0))
     of-effect _ _ (E.misses i (E.seeks-writes bs) q) e = refl
     of-effect _ _ (E.misses i (E.seeks-reads bs) q) e = refl
@@ -56,33 +43,6 @@ absent-changes L s c e = of-effect c (answer L s c) (effect L s c) e
     of-effect _ _ (E.drops i t u d q) e = absurd (omega arith)
 
 -- ---------------------------------------------------------------- status 0
-
--- the last number, which the new transaction has as its start
-pub record Started (i : Bytes) (before after : State) (v : ℕ) : Type 0 where
-  pub last : v ≡ before .last
-  pub start : find i (after .active) ≡ some (newTxn i v)
-
-pub record Checked (i : Bytes) (s : State) (v : ℕ) : Type 0 where
-  pub txn : Txn
-  pub active : find i (s .active) ≡ some txn
-  pub value : v ≡ verdict (conflict txn (s .entries))
-
-pub record Advanced (n : ℕ) (before after : State) (v : ℕ) : Type 0 where
-  pub last : v ≡ after .last
-  pub larger : after .last ≡ max (before .last) n
-
--- "begin: start; track: marks newly stored; check: 1 conflict, 0 none; commit, batch: last number after; drop: entries
--- kept; minimum: that start"
-abbrev pub DoneValue : Op → (before after : State) → ℕ → Type 0
-DoneValue (begin i) s u v = Started i s u v
-DoneValue (trackWrites i bs) s u v = marks u ≡ marks s + v
-DoneValue (trackReads i bs) s u v = marks u ≡ marks s + v
-DoneValue (trackRange i bs) s u v = marks u ≡ marks s + v
-DoneValue (check i) s u v = Checked i s v
-DoneValue (commit i n) s u v = Advanced n s u v
-DoneValue (batch n bs) s u v = Advanced n s u v
-DoneValue (dropTxn i) s u v = v ≡ length (u .entries)
-DoneValue minimum s u v = least (s .active) ≡ some v
 
 pub record Done (c : Op) (s : State) (r : Reply) : Type 0 where
   pub after : State

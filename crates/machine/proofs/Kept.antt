@@ -229,22 +229,23 @@ refuses L (holding s) (on c) h = of-answer (answer L s c) h
     of-answer (absent v u) k = absurd (omega arith)
     of-answer (refused r) k = (refl, refl)
 
-pub refusal-number : (r : Refusal) → (2 ≤ number r) × (number r < 7)
-refusal-number malformed = (omega arith, omega arith)
-refusal-number again = (omega arith, omega arith)
-refusal-number long = (omega arith, omega arith)
-refusal-number empty = (omega arith, omega arith)
-refusal-number full = (omega arith, omega arith)
+-- a refusal's number is neither 0, 1 nor 7
+pub refusal-number : (r : Refusal) → (2 ≤ number r) × (number r ≡ 7 → ⊥)
+refusal-number malformed = (omega arith, λ e. omega (arith, e))
+refusal-number again = (omega arith, λ e. omega (arith, e))
+refusal-number long = (omega arith, λ e. omega (arith, e))
+refusal-number empty = (omega arith, λ e. omega (arith, e))
+refusal-number full = (omega arith, λ e. omega (arith, e))
 
 -- a room that holds a machine state never gets 7
-pub below-7 : (L : Ceilings) (s : State) (c : Call) → serve L (holding s) c .status < 7
+pub not-7 : (L : Ceilings) (s : State) (c : Call) → serve L (holding s) c .status ≡ 7 → ⊥
 unfolding serve
-below-7 L s (fresh n) = omega arith
-below-7 L s (on c) = of-answer (answer L s c)
+not-7 L s (fresh n) = λ e. omega (arith, e)
+not-7 L s (on c) = of-answer (answer L s c)
   where
-    of-answer : (x : Answer) → reply s x .status < 7
-    of-answer (done v u) = omega arith
-    of-answer (absent v u) = omega arith
+    of-answer : (x : Answer) → reply s x .status ≡ 7 → ⊥
+    of-answer (done v u) = λ e. omega (arith, e)
+    of-answer (absent v u) = λ e. omega (arith, e)
     of-answer (refused r) = refusal-number r .1
 
 -- "7: room too short or, save for fresh, not the record of a machine state"
@@ -258,7 +259,7 @@ row-7 L broken (fresh n) = (λ e. absurd (omega arith), back)
     back (inl q) = cc
     back (inr z) = absurd (z .1 n refl)
 row-7 L broken (on c) = (λ e. inr (refl, λ n q. let z : _≡_ {A = ℕ} 0 1 = cc in omega arith), λ z. refl)
-row-7 L (holding s) c = (λ e. absurd (omega (arith, below-7 L s c)), back)
+row-7 L (holding s) c = (λ e. absurd (not-7 L s c e), back)
   where
     back : (holding s ≡ short) ⊎ ((holding s ≡ broken) × ((n : ℕ) → c ≡ fresh n → ⊥)) → serve L (holding s) c .status ≡ 7
     back (inl q) = cc

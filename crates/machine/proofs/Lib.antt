@@ -13,6 +13,7 @@ pub mod Minimum
 pub mod RustVerdict
 pub mod RustAgrees
 pub mod Rows
-pub mod RowSix
+pub mod WordLaws
+pub mod StatusLaws
 pub mod Known
 pub mod Looks

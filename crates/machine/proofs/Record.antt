@@ -20,7 +20,7 @@ use Rattle.machine.proofs.ListLaws.{all-map, all-append, all-of, all-fr
 use Rattle.machine.proofs.ActiveLaws.{find-id, find-holds, put-all, without-all}
 use Rattle.machine.proofs.Effects as E
 use Rattle.machine.proofs.Effects.{Adds, Effect, effect, joined, dropped}
-use Rattle.machine.proofs.Kept.{RoomOk, fresh-ok, serve-keeps, below-7}
+use Rattle.machine.proofs.Kept.{RoomOk, fresh-ok, serve-keeps, not-7}
 use Rattle.machine.proofs.Meaning.{conflict-means}
 use Rattle.machine.proofs.Pruning.{above, same-verdict, above-more, UpTo, up-to-none, up-to-larger, up-to-last, prune-above}
 
@@ -169,10 +169,10 @@ pub demand-3 :
 demand-3 L n cs i t e = check-verdict L _ _ i t (run-follows L (start n) cs (fresh-follows L n)) e
 
 -- "A room made fresh, written only by the calls and passed whole never gets 7."
-pub never-7 : (L : Ceilings) (n : ℕ) (cs : List Call) (c : Call) → serve L (run L (start n) cs .room) c .status < 7
+pub never-7 : (L : Ceilings) (n : ℕ) (cs : List Call) (c : Call) → serve L (run L (start n) cs .room) c .status ≡ 7 → ⊥
 never-7 L n cs c = holds-state (run L (start n) cs .room) (run-follows L (start n) cs (fresh-follows L n))
   where
-    holds-state : (room : Room) → FollowsRoom L room (run L (start n) cs .history) → serve L room c .status < 7
+    holds-state : (room : Room) → FollowsRoom L room (run L (start n) cs .history) → serve L room c .status ≡ 7 → ⊥
     holds-state short f = absurd f
     holds-state broken f = absurd f
-    holds-state (holding s) f = below-7 L s c
+    holds-state (holding s) f = not-7 L s c

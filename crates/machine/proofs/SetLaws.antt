@@ -1,5 +1,5 @@
 -- Laws of sets of keys: what a set holds after keys are added, and that it still ascends.
-use Prim.Native.Nat.{suc, _≤_}
+use Prim.Native.Nat.{suc, _+_, _≤_}
 use mathlib.Core.Path.{_≡_, refl, ap, _∙_}
 use mathlib.Core.Bool.{true, false≢true}
 use mathlib.Core.List.{List, [], _∷_, List·Memᴰ, List·Memᴰ·head, List·Memᴰ·tail, List·Memᴰ·cases-cons, List·Memᴰ·not-nil}
@@ -9,8 +9,8 @@ use native.Mathlib.Omega.{arith}
 use lib.ListN.{length}
 use Rattle.keys.specs.Order.{order, isSame}
 use Rattle.keys.proofs.OrderLaws.{order-refl, order-eq, order-swap, order-trans}
-use Rattle.machine.specs.Lists.{All}
-use Rattle.machine.specs.State.{Bytes, Above, Ascends}
+use Rattle.machine.specs.Lists.{sum, All}
+use Rattle.machine.specs.State.{Bytes, Above, Ascends, setBytes}
 use Rattle.machine.specs.Sets.{equal, stands, insert, insertAll}
 use Rattle.machine.proofs.ListLaws.{all-map, all-of}
 
@@ -204,3 +204,19 @@ pub insertAll-longer : (xs ks : List Bytes) → length ks ≤ length (insertAll 
 unfolding insertAll
 insertAll-longer [] ks = omega arith
 insertAll-longer (x ∷ xs) ks = omega (arith, insert-longer x ks, insertAll-longer xs (insert x ks))
+
+insert-bytes : (k : Bytes) (ks : List Bytes) → setBytes ks ≤ setBytes (insert k ks)
+unfolding insert sum
+insert-bytes k [] = omega arith
+insert-bytes k (x ∷ xs) = step (insert-bytes k xs) (order k x)
+  where
+    step : setBytes xs ≤ setBytes (insert k xs) → (o : Ordering) → length x + setBytes xs ≤ setBytes (stands o (k ∷ x ∷ xs) (x ∷ xs) (x ∷ insert k xs))
+    step ih lt = omega arith
+    step ih eq = omega arith
+    step ih gt = omega arith
+
+-- no key byte is lost
+pub insertAll-bytes : (xs ks : List Bytes) → setBytes ks ≤ setBytes (insertAll xs ks)
+unfolding insertAll
+insertAll-bytes [] ks = omega arith
+insertAll-bytes (x ∷ xs) ks = omega (arith, insert-bytes x ks, insertAll-bytes xs (insert x ks))

@@ -18,6 +18,19 @@ pub data Call : Type 0 where
   fresh : ℕ → Call
   on : Op → Call
 
+-- the calls of "Status 1 leaves the room unchanged except as commit and drop say."
+abbrev pub isCommitOrDrop : Call → Bool
+isCommitOrDrop (fresh n) = false
+isCommitOrDrop (on (begin i)) = false
+isCommitOrDrop (on (trackWrites i bs)) = false
+isCommitOrDrop (on (trackReads i bs)) = false
+isCommitOrDrop (on (trackRange i bs)) = false
+isCommitOrDrop (on (check i)) = false
+isCommitOrDrop (on (commit i n)) = true
+isCommitOrDrop (on (batch n bs)) = false
+isCommitOrDrop (on (dropTxn i)) = true
+isCommitOrDrop (on minimum) = false
+
 -- what the lent bytes are: "too short", "not the record of a machine state", or the record of one
 pub data Room : Type 0 where
   short broken : Room

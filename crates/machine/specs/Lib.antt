@@ -6,3 +6,4 @@ pub mod Serve
 pub mod Sets
 pub mod State
 pub mod Table
+pub mod Words

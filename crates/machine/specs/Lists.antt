@@ -1,6 +1,6 @@
 -- Tests, sums and parts of a list.
 use Prim.Native.Nat.{ℕ, _+_}
-use mathlib.Core.Bool.{Bool, true, false, cond, _&&_, _||_}
+use mathlib.Core.Bool.{Bool, false, cond, _||_}
 use mathlib.Core.List.{List, [], _∷_}
 
 unfoldable pub any : {A : Type 0} → (A → Bool) → List A → Bool

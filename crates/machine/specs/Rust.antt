@@ -1,7 +1,9 @@
--- The Rust's manager as functions on values, with none of the machine's own steps. Shared with the machine, and no more:
--- Txn, an active TransactionState beside its id (its committed_seq is None); a HashSet's one ascending list, where `extend` is
--- insertAll; a HashMap's, where `insert` is put, `get` is find and `remove` is without; and the equality of keys. Their laws
--- stand in SetLaws.antt and ActiveLaws.antt. The calls come with the arguments that the machine's calls carry.
+-- The Rust's manager as functions on values, with none of the machine's own steps. What it shares with the machine:
+-- * values: Txn, an active TransactionState beside its id (its committed_seq is None); Range; the calls with their arguments;
+-- * a HashSet's one ascending list, where `extend` is insertAll; a HashMap's, where `insert` is put, `get` is find and `remove` is
+--   without; the equality of keys (laws in SetLaws.antt and ActiveLaws.antt);
+-- * tests and parts of a list, `any`, `keep` and `isNil`; whether a range holds a key; how lists and bounds are read from bytes.
+-- `serve` is named where the two are compared, and in none of the Rust's functions.
 use Prim.Native.Nat.{ℕ, _<_, min, max}
 use mathlib.Core.Path.{_≡_}
 use mathlib.Core.Bool.{Bool, true, false, cond, not, _&&_, _||_}

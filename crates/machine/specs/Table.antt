@@ -1,16 +1,16 @@
 -- Document 01's table of statuses, in its own words, for a call on a machine state. Serve.antt has one rule for row 6; a
 -- theorem says that both give the same.
-use Prim.Native.Nat.{ℕ, suc, _-_, max}
+use Prim.Native.Nat.{ℕ, suc}
 use mathlib.Core.Bool.{Bool, true, false, cond, not, _&&_, _||_}
 use mathlib.Core.List.{List, [], _∷_}
 use mathlib.Core.Option.{Option, none, some}
 use lib.Dec.{leb, ltb}
 use lib.ListN.{length}
-use Rattle.bounds.specs.Ranges.{Range, notEmpty}
+use Rattle.bounds.specs.Ranges.{notEmpty}
 use Rattle.fields.specs.Fields.{keyList, boundsOf}
 use Rattle.fields.specs.Forms.{shortKeys}
 use Rattle.machine.specs.State.{Bytes, Txn, Entry, State, Ceilings, marks, keyBytes}
-use Rattle.machine.specs.Sets.{insertAll, put, find, without, least, append}
+use Rattle.machine.specs.Sets.{insertAll, put, find, without, append}
 use Rattle.machine.specs.Calls.{Op, begin, trackWrites, trackReads, trackRange, check, commit, batch, dropTxn, minimum}
 use Rattle.machine.specs.Serve.{state, entry, isId, isNew, shortRange, addWrites, addReads, addRange}
 

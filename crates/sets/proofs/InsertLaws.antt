@@ -15,7 +15,7 @@ use Rattle.fields.specs.Forms.{ItemAt, EndAt, NoKeyAt, shortKeys}
 use Rattle.fields.proofs.Lists.{list-nil}
 use Rattle.machine.specs.State.{Bytes, base, setBytes}
 use Rattle.machine.specs.Sets.{insert, insertAll}
-use Rattle.machine.proofs.SetLaws.{insertAll-longer}
+use Rattle.machine.proofs.SetLaws.{insertAll-longer, insertAll-bytes}
 use Rattle.moves.specs.Splices.{Spliced, usedAfter}
 use Rattle.moves.proofs.SpliceLaws.{drop-take}
 use Rattle.layout.specs.Places.{Row, Rows}
@@ -26,7 +26,7 @@ use Rattle.sets.specs.declared.Inserted.{Inserted}
 use Rattle.sets.specs.Sets.{Key, Between, FoundIs, Ready, AllStand, InsertedIs}
 use Rattle.sets.proofs.KeyLaws.{part, key-record, key-ok, key-length, record-length}
 use Rattle.sets.proofs.PutLaws.{row-put}
-use Rattle.sets.proofs.TotalLaws.{insertAll-bytes, one-more, bytes-more}
+use Rattle.sets.proofs.TotalLaws.{one-more, bytes-more}
 
 -- of the set and the list at the start, what stands in the draft and what is left of the list, with the same outcome
 pub record Adding (d₀ : Bytes) (used n : ℕ) (list : Bytes) (marks bytes : ℕ) (d : Bytes) (end held marks' bytes' at : ℕ) : Type 0 where

@@ -17,7 +17,7 @@ use Rattle.machine.specs.Calls.{on, malformed, long, full, refused}
 use Rattle.machine.specs.Sets.{insertAll, put}
 use Rattle.machine.specs.Serve.{state, answer, track}
 use Rattle.machine.proofs.ListLaws.{sum-append}
-use Rattle.machine.proofs.SetLaws.{insertAll-longer}
+use Rattle.machine.proofs.SetLaws.{insertAll-longer, insertAll-bytes}
 use Rattle.moves.specs.Splices.{usedAfter}
 use Rattle.layout.specs.Keys.{setForm}
 use Rattle.layout.specs.Records.{txnForm}
@@ -29,7 +29,6 @@ use Rattle.layout.proofs.SizeLaws.{set-length}
 use Rattle.layout.proofs.LoadLaws.{refuse, look-absent, change}
 use Rattle.places.specs.declared.finds.Place.{Place}
 use Rattle.places.specs.Finds.{Found}
-use Rattle.sets.proofs.TotalLaws.{insertAll-bytes}
 use Rattle.edits.proofs.LaidLaws.{entriesOf, activeOf}
 use Rattle.answers.proofs.FormLaws.{Listed, no-list, long-list, good-list}
 use Rattle.answers.proofs.TrackLaws.{track-absent, track-full, track-done, writes-malformed, reads-malformed, writes-long, reads-long, writes-track, reads-track}
