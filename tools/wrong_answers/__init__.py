@@ -1,0 +1,1 @@
+"""The wrong answers beside the crates: see tools/wrong."""
