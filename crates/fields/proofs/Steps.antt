@@ -7,11 +7,18 @@ use mathlib.Core.Option.{Option, none, some, Option·none-ne-some, Option·some-
 use native.Mathlib.Omega.{arith}
 use lib.Dec.{leb}
 use lib.ListN.{length, take, drop, length-drop}
-use Rattle.fields.specs.Fields.{Field, field, before, fieldsIn, fields}
+use Rattle.fields.specs.Fields.{Field, field, cut, first, headed, before, fieldsFrom, fieldsIn, fields}
 
 -- a field, if the payload has the length that its head says, before what follows it
 abbrev afterHead : ℕ → ℕ → List ℕ → Option (List Field) → Option (List Field)
 afterHead t n bs rest = cond (leb n (length bs)) (before (field t (take n bs)) rest) none
+
+from-headed : (t n : ℕ) (bs : List ℕ) (rest : List ℕ → Option (List Field)) → fieldsFrom (headed t n bs) rest ≡ afterHead t n bs (rest (drop n bs))
+from-headed t n bs rest = go (leb n (length bs))
+  where
+    go : (b : Bool) → fieldsFrom (cond b (first (field t (take n bs)) (drop n bs)) (cut t n)) rest ≡ cond b (before (field t (take n bs)) (rest (drop n bs))) none
+    go true = refl
+    go false = refl
 
 -- any two bounds that are no less than the length give the same
 enough : (m n : ℕ) (bs : List ℕ) → length bs ≤ m → length bs ≤ n → fieldsIn m bs ≡ fieldsIn n bs
@@ -25,9 +32,9 @@ enough (suc m) zero (t ∷ bs) h k = absurd (omega arith)
 enough (suc m) (suc n) (t ∷ []) h k = refl
 enough (suc m) (suc n) (t ∷ x ∷ []) h k = refl
 enough (suc m) (suc n) (t ∷ x ∷ l ∷ bs) h k =
-    ap
-    (afterHead t (x * 256 + l) bs)
-    (enough m n (drop (x * 256 + l) bs) (simp length-drop (omega arith)) (simp length-drop (omega arith)))
+    from-headed t (x * 256 + l) bs (fieldsIn m)
+    ∙ ap (afterHead t (x * 256 + l) bs) (enough m n (drop (x * 256 + l) bs) (simp length-drop (omega arith)) (simp length-drop (omega arith)))
+    ∙ sym (from-headed t (x * 256 + l) bs (fieldsIn n))
 
 pub fields-nil : fields [] ≡ some []
 unfolding fields fieldsIn
@@ -48,7 +55,8 @@ pub fields-step : (t h l : ℕ) (bs : List ℕ)
     none
 unfolding fields fieldsIn
 fields-step t h l bs =
-    ap
+    from-headed t (h * 256 + l) bs (fieldsIn (suc (suc (length bs))))
+    ∙ ap
     (afterHead t (h * 256 + l) bs)
     (enough (suc (suc (length bs))) (length (drop (h * 256 + l) bs)) (drop (h * 256 + l) bs) (simp length-drop (omega arith)) (omega arith))
 

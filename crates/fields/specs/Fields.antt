@@ -16,23 +16,37 @@ pub record Field : Type 0 where
 abbrev pub field : ℕ → List ℕ → Field
 field t p = record { tag = t; payload = p }
 
+-- "Field: one-byte tag, two-byte big-endian length, payload": what stands at the front of some bytes. No bytes; a tag whose
+-- length is not all there; a tag and the length that it says, whose payload is not all there; a field, and what follows it
+pub data Front : Type 0 where
+  empty : Front
+  begun : ℕ → Front
+  cut : ℕ → ℕ → Front
+  first : Field → List ℕ → Front
+
+abbrev pub headed : ℕ → ℕ → List ℕ → Front
+headed t n bs = cond (leb n (length bs)) (first (field t (take n bs)) (drop n bs)) (cut t n)
+
+abbrev pub front : List ℕ → Front
+front [] = empty
+front (t ∷ []) = begun t
+front (t ∷ h ∷ []) = begun t
+front (t ∷ h ∷ l ∷ bs) = headed t (h * 256 + l) bs
+
 abbrev pub before : {A : Type 0} → A → Option (List A) → Option (List A)
 before x none = none
 before x (some xs) = some (x ∷ xs)
 
--- "Field: one-byte tag, two-byte big-endian length, payload": all fields to the end, none where the bytes end within one;
--- n is no less than the bytes left, so that it never runs out
+abbrev pub fieldsFrom : Front → (List ℕ → Option (List Field)) → Option (List Field)
+fieldsFrom empty rest = some []
+fieldsFrom (begun t) rest = none
+fieldsFrom (cut t n) rest = none
+fieldsFrom (first f bs) rest = before f (rest bs)
+
+-- all fields to the end, none where the bytes end within one; n is no less than the bytes left, so that it never runs out
 unfoldable pub fieldsIn : ℕ → List ℕ → Option (List Field)
-fieldsIn zero [] = some []
-fieldsIn zero (t ∷ bs) = none
-fieldsIn (suc n) [] = some []
-fieldsIn (suc n) (t ∷ []) = none
-fieldsIn (suc n) (t ∷ h ∷ []) = none
-fieldsIn (suc n) (t ∷ h ∷ l ∷ bs) =
-    cond
-    (leb (h * 256 + l) (length bs))
-    (before (field t (take (h * 256 + l) bs)) (fieldsIn n (drop (h * 256 + l) bs)))
-    none
+fieldsIn zero bs = fieldsFrom (front bs) λ rest. none
+fieldsIn (suc n) bs = fieldsFrom (front bs) (fieldsIn n)
 
 unfoldable pub fields : List ℕ → Option (List Field)
 fields bs = fieldsIn (length bs) bs

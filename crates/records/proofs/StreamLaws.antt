@@ -8,8 +8,8 @@ use borrow.Author.Tests.{le-leb, leb-true}
 use lib.Dec.{leb}
 use lib.ListN.{length, take, drop, length-append, length-drop}
 use lib.Seq.{take-append-le, drop-append-le}
-use Rattle.records.proofs.RecordLaws.{next-unknown}
-use Rattle.records.specs.Stream.{Next, whole, more, stop, known, next, headed}
+use Rattle.records.proofs.RecordLaws.{sized, next-headed, next-unknown}
+use Rattle.records.specs.Stream.{Next, whole, more, stop, known, next}
 
 abbrev decided : Next → Bool
 decided (whole tag p rest) = true
@@ -21,8 +21,8 @@ behind c (whole tag p rest) = whole tag p (rest ++ c)
 behind c more = more
 behind c stop = stop
 
-headed-stays : (c : List ℕ) (tag n : ℕ) (bs : List ℕ) → decided (headed tag n bs) ≡ true → headed tag n (bs ++ c) ≡ behind c (headed tag n bs)
-headed-stays c tag n bs = go (leb n 32768) (leb n (length bs)) refl
+sized-stays : (c : List ℕ) (tag n : ℕ) (bs : List ℕ) → decided (sized tag n bs) ≡ true → sized tag n (bs ++ c) ≡ behind c (sized tag n bs)
+sized-stays c tag n bs = go (leb n 32768) (leb n (length bs)) refl
   where
     at : Bool → Bool → List ℕ → Next
     at u v l = cond u (cond v (whole tag (take n l) (drop n l)) more) stop
@@ -45,10 +45,12 @@ stays : (c bs : List ℕ) → decided (next bs) ≡ true → next (bs ++ c) ≡ 
 stays c [] d = absurd (false≢true d)
 stays c (t ∷ []) d = short-stays t c c d
 stays c (t ∷ h ∷ []) d = short-stays t c (h ∷ c) d
-stays c (t ∷ h ∷ l ∷ bs) d = go (known t) d
+stays c (t ∷ h ∷ l ∷ bs) d =
+    let e = next-headed t h l bs in
+    next-headed t h l (bs ++ c) ∙ go (known t) (ap decided (sym e) ∙ d) ∙ ap (behind c) (sym e)
   where
-    go : (b : Bool) → decided (cond b (headed t (h * 256 + l) bs) stop) ≡ true → cond b (headed t (h * 256 + l) (bs ++ c)) stop ≡ behind c (cond b (headed t (h * 256 + l) bs) stop)
-    go true d = headed-stays c t (h * 256 + l) bs d
+    go : (b : Bool) → decided (cond b (sized t (h * 256 + l) bs) stop) ≡ true → cond b (sized t (h * 256 + l) (bs ++ c)) stop ≡ behind c (cond b (sized t (h * 256 + l) bs) stop)
+    go true d = sized-stays c t (h * 256 + l) bs d
     go false d = refl
 
 pub whole-stays : (bs c : List ℕ) {p rest : List ℕ} {tag : ℕ} → next bs ≡ whole tag p rest → next (bs ++ c) ≡ whole tag p (rest ++ c)
@@ -75,7 +77,7 @@ shrinks (t ∷ h ∷ []) = go (known t)
     go : (b : Bool) → length (after (cond b more stop)) ≤ 2
     go true = omega arith
     go false = omega arith
-shrinks (t ∷ h ∷ l ∷ bs) = go (known t) (leb (h * 256 + l) 32768) (leb (h * 256 + l) (length bs))
+shrinks (t ∷ h ∷ l ∷ bs) = rw (next-headed t h l bs) (go (known t) (leb (h * 256 + l) 32768) (leb (h * 256 + l) (length bs)))
   where
     go : (u v w : Bool) → length (after (cond u (cond v (cond w (whole t (take (h * 256 + l) bs) (drop (h * 256 + l) bs)) more) stop) stop)) ≤ length (t ∷ h ∷ l ∷ bs)
     go false v w = omega arith

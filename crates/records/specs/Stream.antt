@@ -1,9 +1,10 @@
 -- Script records, at the front of the bytes that have come.
-use Prim.Native.Nat.{ℕ, _+_, _*_}
+use Prim.Native.Nat.{ℕ}
 use mathlib.Core.Bool.{Bool, true, false, cond, _&&_}
-use mathlib.Core.List.{List, [], _∷_}
+use mathlib.Core.List.{List}
 use lib.Dec.{leb}
-use lib.ListN.{length, take, drop}
+use lib.ListN.{length}
+use Rattle.fields.specs.Fields.{Front, empty, begun, cut, first, front}
 
 -- "01 begin .. 09 minimum"
 abbrev pub known : ℕ → Bool
@@ -23,13 +24,16 @@ isWhole (whole tag p rest) = true
 isWhole more = false
 isWhole stop = false
 
--- a record whose head is whole, n being the length that it says
-abbrev pub headed : ℕ → ℕ → List ℕ → Next
-headed tag n bs = cond (leb n payloadLimit) (cond (leb n (length bs)) (whole tag (take n bs) (drop n bs)) more) stop
+-- "An unknown tag, a payload above 32,768 .. ends the run"
+abbrev pub allowed : ℕ → ℕ → Bool
+allowed tag n = known tag && leb n payloadLimit
 
--- "Field: one-byte tag, two-byte big-endian length, payload."; "An unknown tag, a payload above 32,768 .. ends the run"
+-- a record is a field; its head ends the run as soon as its bytes say so
+abbrev pub recordOf : Front → Next
+recordOf empty = more
+recordOf (begun tag) = cond (known tag) more stop
+recordOf (cut tag n) = cond (allowed tag n) more stop
+recordOf (first f rest) = cond (allowed (f .tag) (length (f .payload))) (whole (f .tag) (f .payload) rest) stop
+
 abbrev pub next : List ℕ → Next
-next [] = more
-next (tag ∷ []) = cond (known tag) more stop
-next (tag ∷ h ∷ []) = cond (known tag) more stop
-next (tag ∷ h ∷ l ∷ bs) = cond (known tag) (headed tag (h * 256 + l) bs) stop
+next bs = recordOf (front bs)
