@@ -70,15 +70,15 @@ class Reasons(unittest.TestCase):
 
 
 class Runs(unittest.TestCase):
-    def test_every_old_text_stands_once(self):
-        self.assertEqual(changed("a b c", "x", [("a", "A"), ("c", "")]), "A b ")
-        for old in ("d", ""):
-            with self.assertRaisesRegex(Fault, "not there"):
-                changed("a b c", "x", [(old, "D")])
-        with self.assertRaisesRegex(Fault, "more than once"):
-            changed("a b a", "x", [("a", "A")])
+    def test_an_old_text_stands_once_in_the_text_or_in_its_function(self):
+        self.assertEqual(changed("a b c", "x", [("a", "A", None), ("c", "", None)]), "A b ")
+        for text, old in (("a b c", "d"), ("a b c", ""), ("a b a", "a")):
+            with self.assertRaisesRegex(Fault, "does not stand there once"):
+                changed(text, "x", [(old, "D", "f")])
         with self.assertRaisesRegex(Fault, "overlap"):
-            changed("a b c", "x", [("a b", "A"), ("b c", "B")])
+            changed("a b c", "x", [("a b", "A", None), ("b c", "B", None)])
+        two = "fn f() {\n    0\n}\n\nfn g() {\n    0\n}\n"
+        self.assertEqual(changed(two, "x", [("    0", "    1", "g")]), "fn f() {\n    0\n}\n\nfn g() {\n    1\n}\n")
 
     def test_one_wrong_answer_to_a_function_in_a_run_and_wide_ones_alone(self):
         compare = ("src/lib.rt", "        if x < y {", "        if x <= y {")

@@ -33,15 +33,12 @@ class Wrong:
 
     def is_wide(self):
         """Whether it can break more than one function's proof: a definition, or a constant that stands outside its function."""
-        if self.theorem:
-            return True
-        for file, old, _ in self.changes:
-            text = (ROOT / "crates" / self.crate / file).read_text(encoding="utf8")
-            last = text.find(old) + len(old)
-            inside = [name for at, name, _ in heads(text) if at < last]
-            if not inside or inside[-1] != self.function:
-                return True
-        return False
+        return self.theorem is not None or any(self.outside(file, old) for file, old, _ in self.changes)
+
+    def outside(self, file, old):
+        text = (ROOT / "crates" / self.crate / file).read_text(encoding="utf8")
+        place = place_of(text, old, self.function)
+        return place is None or not any(start <= place < end for start, end in extents(text, self.function))
 
 
 def edits(crate, folder):
@@ -62,6 +59,8 @@ def read_edit(crate, path):
             answers[-1].function = rest.strip()
         elif word == "by":
             answers[-1].theorem = rest.strip()
+        elif line.startswith("##"):
+            pass
         elif line.startswith("#"):
             answers[-1].words.append(line[1:].strip())
         elif word == "file":
@@ -107,10 +106,28 @@ def heads(text):
             of = head[1] + "::"
         elif line.startswith("}"):
             of = ""
-        elif head := re.match(r".*\bfn (\w+)\(", line.split("//")[0]):
+        elif head := re.match(r".*\bfn (\w+)[(<]", line.split("//")[0]):
             found.append((at, of + head[1], line))
         at += len(line)
     return found
+
+
+def extents(text, function):
+    """From where to where a function of this name stands in a source text."""
+    starts = [(at, name) for at, name, _ in heads(text)] + [(len(text), "")]
+    return [(at, end) for (at, name), (end, _) in zip(starts, starts[1:]) if name == function]
+
+
+def place_of(text, old, function=None):
+    """Where the old text stands: the one place in the text or, where there are several, the one in the function."""
+    if not old or old not in text:
+        return None
+    parts = [(0, len(text)), *extents(text, function)]
+    for start, end in parts:
+        at = text.find(old, start, end)
+        if at >= 0 and text.find(old, at + 1, end) < 0:
+            return at
+    return None
 
 
 def functions(crate):

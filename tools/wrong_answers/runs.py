@@ -7,20 +7,18 @@ import shutil
 import subprocess
 import tempfile
 
-from .edits import Fault, ROOT
+from .edits import Fault, ROOT, place_of
 
 TARGET = ROOT / "target"
 
 
 def changed(text, where, changes):
-    """The text with every change made, each of whose old texts stands in it once, and none in another's."""
+    """The text with every change made, each at its own place: an old text, a new one, and the function that it is in."""
     places = []
-    for old, new in changes:
-        at = text.find(old) if old else -1
-        if at < 0:
-            raise Fault(f"{where}: an 'old:' text is not there: {old}")
-        if text.find(old, at + 1) >= 0:
-            raise Fault(f"{where}: an 'old:' text is there more than once: {old}")
+    for old, new, function in changes:
+        at = place_of(text, old, function)
+        if at is None:
+            raise Fault(f"{where}: an 'old:' text does not stand there once, nor once in its function: {old}")
         places.append((at, at + len(old), new))
     places.sort()
     if any(a[1] > b[0] for a, b in zip(places, places[1:])):
@@ -48,7 +46,7 @@ def edited(run):
     by_file = collections.defaultdict(list)
     for answer in run:
         for file, old, new in answer.changes:
-            by_file[file].append((old, new))
+            by_file[file].append((old, new, answer.function))
     top = ROOT / "crates" / run[0].crate
     return {file: changed((top / file).read_text(encoding="utf8"), f"{run[0].crate}/{file}", of) for file, of in by_file.items()}
 
