@@ -11,21 +11,23 @@ use std::process::ExitCode;
 const USAGE: &str = "\
 usage: script bytes < TEXT      the script's bytes
        script text < SCRIPT     the script's text
-       script show PROGRAM < TEXT
+       script show PROGRAM [WORD..] < TEXT
                                 each record beside the line that the program writes for it
 ";
 
 enum Command<'a> {
     Bytes,
     Text,
-    Show(&'a Path),
+    Show(&'a Path, &'a [OsString]),
 }
 
 fn command(words: &[OsString]) -> Option<Command<'_>> {
     match words {
         [word] if word == OsStr::new("bytes") => Some(Command::Bytes),
         [word] if word == OsStr::new("text") => Some(Command::Text),
-        [word, program] if word == OsStr::new("show") => Some(Command::Show(Path::new(program))),
+        [word, program, words @ ..] if word == OsStr::new("show") => {
+            Some(Command::Show(Path::new(program), words))
+        }
         _ => None,
     }
 }
@@ -36,9 +38,9 @@ fn output(command: Command, input: &[u8]) -> Result<Vec<u8>, String> {
     match command {
         Command::Bytes => Ok(parsed()?.bytes()),
         Command::Text => Ok(Script::read(input).to_string().into_bytes()),
-        Command::Show(program) => {
+        Command::Show(program, words) => {
             let script = parsed()?;
-            Ok(beside(&script, &run(program, &script.bytes())?)?.into_bytes())
+            Ok(beside(&script, &run(program, words, &script.bytes())?)?.into_bytes())
         }
     }
 }

@@ -1,6 +1,7 @@
 //! A script's records beside the lines that a program writes for them.
 
 use crate::script::Script;
+use std::ffi::OsString;
 use std::io::{self, ErrorKind, Write};
 use std::path::Path;
 use std::process::{Command, Stdio};
@@ -9,10 +10,11 @@ use std::thread;
 /// A longer record does not push the answers of the others away.
 const WIDEST: usize = 60;
 
-/// What a program writes that is given the bytes, or why there is nothing to show.
-pub fn run(program: &Path, bytes: &[u8]) -> Result<String, String> {
+/// What a program, started with some words, writes that is given the bytes, or why there is nothing to show.
+pub fn run(program: &Path, words: &[OsString], bytes: &[u8]) -> Result<String, String> {
     let failed = |error: io::Error| format!("{}: {}", program.display(), error);
     let mut child = Command::new(program)
+        .args(words)
         .stdin(Stdio::piped())
         .stdout(Stdio::piped())
         .spawn()

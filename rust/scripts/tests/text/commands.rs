@@ -62,8 +62,7 @@ fn faults_name_the_line() {
 
 #[test]
 fn bad_arguments() {
-    let wrong: [&[&str]; 6] =
-        [&[], &["byte"], &["bytes", "x"], &["text", "x"], &["show"], &["show", "/bin/true", "x"]];
+    let wrong: [&[&str]; 5] = [&[], &["byte"], &["bytes", "x"], &["text", "x"], &["show"]];
     for words in wrong {
         assert!(failed(words, b"", 2).starts_with("usage: script bytes"), "{:?}", words);
     }
@@ -100,6 +99,11 @@ fn what_stops_a_run_beside_its_line() {
     assert_eq!(rows[0], b"begin A    0 0");
     assert_eq!(rows[1], format!("{}    0 1", wide).as_bytes());
     assert!(rows[2].ends_with(b"00    stop 81") && rows.len() == 4);
+}
+
+#[test]
+fn a_program_with_words() {
+    assert_eq!(done(&["show", "/bin/echo", "0", "7"], b"begin A\n"), b"begin A    0 7\n");
 }
 
 #[test]
