@@ -1,5 +1,6 @@
 //! The program itself, and the ways to feed it.
 
+use differential::emulated;
 use std::io::{BufRead, BufReader, Read, Write};
 use std::os::raw::c_uint;
 use std::os::unix::io::OwnedFd;
@@ -22,8 +23,9 @@ extern "C" {
 fn start(input: Stdio, patience: c_uint) -> Child {
     let program = Path::new(env!("CARGO_MANIFEST_DIR")).join("../../target/bin/replay");
     assert!(program.exists(), "target/bin/replay is not there: `rt check replay` makes it");
-    let mut command = Command::new(program);
-    command.stdin(input).stdout(Stdio::piped());
+    let words = emulated::started(program);
+    let mut command = Command::new(&words[0]);
+    command.args(&words[1..]).stdin(input).stdout(Stdio::piped());
     // SAFETY: alarm touches no memory, and may be called between a fork and an exec; it outlasts the exec.
     unsafe {
         command.pre_exec(move || {
