@@ -3,6 +3,7 @@
 mod crowded;
 
 use bench::manager::simple::Simple;
+use differential::emulated;
 use differential::random::Random;
 use judge::call::{self, Call};
 use judge::{draws, totals, Judge};
@@ -103,11 +104,11 @@ fn random_runs() {
 
 #[test]
 fn crowded_runs() {
-    const CALLS: u64 = 10_000;
+    let calls = emulated::draws(10_000);
     for draw in [crowded::short_keys, crowded::long_keys] {
-        let met = compare(CALLS, 1_000, draw);
-        assert!(met.no_room.iter().all(|&n| n > CALLS / 1_000));
-        assert!(met.conflicts > CALLS / 1_000);
+        let met = compare(calls, 1_000, draw);
+        assert!(met.no_room.iter().all(|&n| n > calls / 1_000));
+        assert!(met.conflicts > calls / 1_000);
     }
 }
 

@@ -1,5 +1,6 @@
 use crate::question::{Answers, Question};
 use crate::tally::Tally;
+use differential::emulated::draws;
 use differential::random::Random;
 use std::thread;
 use stranvek_sys::answers::{RawBound, RawRange, DONE, EMPTY_RANGE, KEY_LIMIT, KEY_TOO_LONG};
@@ -144,7 +145,7 @@ fn ask(seed: u64, questions: usize) -> (Tally, Statuses) {
 
 #[test]
 fn random_keys_at_the_limit() {
-    let half = QUESTIONS / 2;
+    let half = draws(QUESTIONS) / 2;
     let mut tally = Tally::default();
     thread::scope(|scope| {
         let other = scope.spawn(|| ask(1, half));
@@ -156,5 +157,5 @@ fn random_keys_at_the_limit() {
             assert!(statuses.joined.iter().all(|&met| met > 1_000));
         }
     });
-    tally.close(QUESTIONS * Answers::COUNT);
+    tally.close(2 * half * Answers::COUNT);
 }

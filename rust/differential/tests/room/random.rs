@@ -1,10 +1,11 @@
+use differential::emulated;
 use differential::random::Random;
 use judge::both::{Both, Statuses};
 use judge::call::Call;
 use judge::draws;
 use std::{env, thread};
 
-/// Calls of the gate's run; STRANVEK_CALLS names another number, as 10000000.
+/// Calls of the gate's run; STRANVEK_CALLS names another number, as 10000000, which is not divided.
 const CALLS: u64 = 1_000_000;
 
 /// Calls between two fresh rooms.
@@ -38,7 +39,7 @@ fn compare(seed: u64, calls: u64) -> Met {
 fn random_runs() {
     let calls = match env::var("STRANVEK_CALLS") {
         Ok(calls) => calls.parse().expect("STRANVEK_CALLS is a number of calls"),
-        Err(_) => CALLS,
+        Err(_) => emulated::draws(CALLS),
     };
     let half = calls / 2;
     thread::scope(|scope| {
