@@ -6,6 +6,7 @@ import re
 import shutil
 import subprocess
 import tempfile
+import typing
 
 from .edits import Fault, ROOT, place_of
 
@@ -63,6 +64,13 @@ def runs_of(answers, alone):
     return runs
 
 
+class Said(typing.NamedTuple):
+    """What the checker ended with, what it said, and the processor time that it took."""
+    status: int
+    words: str
+    seconds: float
+
+
 class Prover:
     """The kit's checker, called as `rt dev` calls it, over a copy of a crate's proved modules."""
 
@@ -70,6 +78,7 @@ class Prover:
         home = os.environ.get("RATTLE_HOME") or pathlib.Path(shutil.which("rt")).resolve().parent.parent
         self.home, self.listed = pathlib.Path(home), listed
         self.own = self.home / "on" / os.uname().machine
+        self.times = []
         self.modules = self.modules_folder()
 
     def check(self, crate, source, incremental):
@@ -80,7 +89,13 @@ class Prover:
         words += ["-L", f"dependency={TARGET}/rlib", "-L", f"dependency={self.own}/rlib"]
         words += ["--antt-project", self.home / "logic" / "antt-project.json", "--logic-built", self.own / "logic-built"]
         words += ["--incremental", incremental]
-        return subprocess.run(words, stdout=subprocess.PIPE, stderr=subprocess.STDOUT, encoding="utf8", errors="replace")
+        with subprocess.Popen(words, stdout=subprocess.PIPE, stderr=subprocess.STDOUT, encoding="utf8", errors="replace") as process:
+            said = process.stdout.read()
+            _, status, used = os.wait4(process.pid, 0)
+            process.returncode = os.waitstatus_to_exitcode(status)
+        seconds = used.ru_utime + used.ru_stime
+        self.times.append(seconds)
+        return Said(process.returncode, said, seconds)
 
     def modules_folder(self):
         """The name by which this kit knows its own modules in an incremental folder: that of a crate of one empty function."""
@@ -90,8 +105,8 @@ class Prover:
             (folder / "src" / "lib.rt").write_text("pub fn nothing() {}\n")
             said = self.check("nothing", folder / "src" / "lib.rt", folder / "modules")
             names = [path.name for path in (folder / "modules").iterdir()] if (folder / "modules").is_dir() else []
-            if said.returncode or len(names) != 1:
-                raise Fault(f"the kit's checker does not do what this tool expects of it:\n{said.stdout}")
+            if said.status or len(names) != 1:
+                raise Fault(f"the kit's checker does not do what this tool expects of it:\n{said.words}")
             return names[0]
 
     def log_of(self, run, name):
@@ -109,8 +124,8 @@ class Prover:
             shutil.copytree(proved, work / "modules" / self.modules)
         source = next(file for file in (work / "src" / "main.rt", work / "src" / "lib.rt") if file.exists())
         said = self.check(crate, source, work / "modules")
-        (TARGET / "wrong" / crate / f"{name}.log").write_text(said.stdout, encoding="utf8")
+        (TARGET / "wrong" / crate / f"{name}.log").write_text(f"{said.words}processor time: {said.seconds:.1f} s\n", encoding="utf8")
         shutil.rmtree(work)
-        if said.returncode != 1 or not re.search(r"^logic=not-proved", said.stdout, re.M):
-            raise Fault(f"{crate}: run {name} ({'; '.join(a.label for a in run)}): not refused by a proof (exit status {said.returncode})")
-        return said.stdout
+        if said.status != 1 or not re.search(r"^logic=not-proved", said.words, re.M):
+            raise Fault(f"{crate}: run {name} ({'; '.join(a.label for a in run)}): not refused by a proof (exit status {said.status})")
+        return said.words
