@@ -1,17 +1,19 @@
 """What tools/wrong takes for a refusal, on logs as the checker writes them, and how it groups wrong answers into runs."""
 import pathlib
 import sys
+import tempfile
 import unittest
 
 sys.dont_write_bytecode = True
 sys.path.insert(0, str(pathlib.Path(__file__).resolve().parent.parent))
-from wrong_answers.edits import Fault, Wrong, above  # noqa: E402
+from wrong_answers.edits import Fault, Wrong, above, read_edit  # noqa: E402
 from wrong_answers.reasons import reason  # noqa: E402
 from wrong_answers.runs import changed, runs_of  # noqa: E402
 
 OWN = "/x/proofs/compare/Proof.antt:53:90: error: `returns-2`: `omega`: the goal does not follow from what it read."
 LEFT_OUT = "/x/proofs/compare/Proof.antt:113:5: error: `compare-spec`: `returns-2` was not admitted (it has holes or undetermined implicits, or was rejected), so this cannot be checked"
 MISFIT = "/x/proofs/compare/Proof.antt:20:5: error: `add-i`: the module has no `Need-add-i` that can be named from here"
+SHIFTED = "/x/proofs/compare/Proof.antt:64:9: error: `returns-5`: record `After-struct-known` has no field `if1`"
 LAW = "/x/proofs/OrderLaws.antt:37:25: error: `order-swap`: computed as far as they go, the two types differ"
 LAW_LEFT_OUT = "/x/proofs/OrderLaws.antt:70:26: error: `order-chain`: `order-trans` was not admitted (it has holes or undetermined implicits, or was rejected), so this cannot be checked"
 
@@ -48,7 +50,8 @@ class Reasons(unittest.TestCase):
         self.faulty("reason of its own", answer("equal"), OWN, "fn keys::compare: not proved", "fn keys::equal: proved")
 
     def test_a_proof_that_does_not_fit_the_code_is_a_fault(self):
-        self.faulty("list of needs", answer("compare"), MISFIT, OWN, "fn keys::compare: not proved")
+        for misfit in (MISFIT, SHIFTED):
+            self.faulty("does not fit", answer("compare"), misfit, OWN, "fn keys::compare: not proved")
 
     def test_a_function_without_a_proof_file(self):
         said = "no proof: expected `size-spec` in /x/proofs/size/Proof.antt; `search` does not close `returns`"
@@ -67,6 +70,27 @@ class Reasons(unittest.TestCase):
         self.refused("OrderLaws:37: order-swap", answer(theorem="order-swap"), LAW, LAW_LEFT_OUT)
         self.faulty("reason of its own", answer(theorem="order-chain"), LAW, LAW_LEFT_OUT)
         self.faulty("reason of its own", answer(theorem="order-refl"), LAW, LAW_LEFT_OUT)
+
+
+class Edits(unittest.TestCase):
+    def read(self, *lines):
+        with tempfile.TemporaryDirectory() as scratch:
+            path = pathlib.Path(scratch) / "x.edit"
+            path.write_text("\n".join(lines), encoding="utf8")
+            return read_edit("keys", path)
+
+    def test_what_an_edit_holds(self):
+        read = self.read("wrong: a", "in: f", "# rule", "## not for the document", "file: src/lib.rt", "old:   x", "new:", "", "wrong: b", "by: t", "file: specs/A.antt", "old: y", "new: z")
+        self.assertEqual([(a.label, a.function, a.theorem, a.words) for a in read], [("a", "f", None, ["rule"]), ("b", None, "t", [])])
+        self.assertEqual([a.changes for a in read], [[("src/lib.rt", "  x", "")], [("specs/A.antt", "y", "z")]])
+
+    def test_an_edit_that_would_do_less_than_it_says_is_a_fault(self):
+        whole = ["wrong: a", "in: f", "file: src/lib.rt", "old: x", "new: y"]
+        self.assertEqual(len(self.read(*whole)), 1)
+        for lines in ([], whole[:4], whole[:2], [*whole[:4], *whole[3:]], [*whole, "old: z"], [*whole, "else: z"], whole[1:], [whole[0], *whole[2:]],
+                      [*whole[:2], *whole[3:]], [*whole[:2], "by: t", *whole[2:]], [*whole[:2], "file: proofs/A.antt", *whole[3:]]):
+            with self.assertRaises(Fault):
+                self.read(*lines)
 
 
 class Runs(unittest.TestCase):

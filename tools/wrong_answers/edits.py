@@ -42,7 +42,11 @@ class Wrong:
 
 
 def edits(crate, folder):
-    return sorted((ROOT / "crates" / crate / folder).glob("*.edit"))
+    files = sorted((ROOT / "crates" / crate / folder).glob("*"))
+    for file in files:
+        if file.suffix != ".edit":
+            raise Fault(f"{file}: it is no edit, and nothing tries it")
+    return files
 
 
 def read_edit(crate, path):
@@ -50,9 +54,11 @@ def read_edit(crate, path):
     for line in path.read_text(encoding="utf8").splitlines():
         word, _, rest = line.partition(":")
         rest = rest.removeprefix(" ")
+        if old is not None and word != "new":
+            raise Fault(f"{path}: an 'old:' line has no 'new:' line behind it: {old}")
         if word == "wrong":
             answers.append(Wrong(crate, path, rest.strip()))
-            file = old = None
+            file = None
         elif not answers:
             raise Fault(f"{path}: it begins with a line 'wrong: LABEL'")
         elif word == "in":
@@ -67,10 +73,13 @@ def read_edit(crate, path):
             file = rest.strip()
         elif word == "old":
             old = rest
-        elif word == "new":
+        elif word == "new" and file is not None and old is not None:
             answers[-1].changes.append((file, old, rest))
+            old = None
         elif line.strip():
-            raise Fault(f"{path}: a line of no known kind: {line}")
+            raise Fault(f"{path}: a line that stands in no order or is of no kind: {line}")
+    if old is not None or not answers:
+        raise Fault(f"{path}: it ends before its last change, or holds no wrong answer")
     return [answer.check() for answer in answers]
 
 

@@ -17,8 +17,8 @@ def reason(answer, log):
         if "does not close" in line and "no proof" in line:
             return "what the code leaves to prove: " + ", ".join(re.findall(r"`([^`]*)`", line.split("does not close", 1)[1]))
         own = [error for error in errors if proof_is_of(error["file"], path)]
-    if misfit := next((error for error in own if re.search(r"has no `?Need-", error["said"])), None):
-        raise Fault(f"{answer}: it only changed the list of needs ({misfit['file']}:{misfit['line']})")
+    if misfit := next((error for error in own if re.search(r"has no (`?Need-|field )", error["said"])), None):
+        raise Fault(f"{answer}: its proof does not fit the code any more ({misfit['file']}:{misfit['line']})")
     own = [error for error in own if "was not admitted" not in error["said"]]
     if not own:
         raise Fault(f"{answer}: not refused for a reason of its own")

@@ -5,7 +5,7 @@ use mathlib.Core.List.{List, [], _∷_, map}
 use mathlib.Core.Bool.{Bool, true, false}
 use mathlib.Core.Option.{Option, none, some}
 use native.Mathlib.Omega.{arith}
-use Rattle.machine.specs.State.{Bytes, Txn, Ceilings}
+use Rattle.machine.specs.State.{Bytes, Txn, Ceilings, base}
 use Rattle.machine.specs.Sets.{find, conflict}
 use Rattle.machine.specs.Calls.{Op, Call, fresh, on, check, Room, short, broken, holding, malformed, done, absent, Reply, replied, reply, _>>=_, _>>_, need, given}
 use Rattle.machine.specs.Serve.{state, isId, verdict, answer, serve}
@@ -14,10 +14,10 @@ use Rattle.machine.proofs.Record.{demand-3, never-7}
 use Rattle.machine.specs.Rust.{Unrefused, rustRun, manager}
 use Rattle.machine.proofs.Stays.{stays-said}
 use Rattle.machine.proofs.RustAgrees.{Equals, demand-2}
-use Rattle.layout.specs.Rooms.{load, ServedBy}
+use Rattle.layout.specs.Rooms.{load, ServedBy, Served}
 use Rattle.layout.specs.Runs.{Passed, Alike}
 use Rattle.layout.specs.Demands.{Demand1}
-use Rattle.layout.proofs.HoldLaws.{Small}
+use Rattle.layout.proofs.HoldLaws.{Small, base-small}
 use Rattle.layout.proofs.FrontLaws.{same-front}
 use Rattle.layout.proofs.DemandOne.{demand-1}
 
@@ -106,3 +106,7 @@ module _ (L : Ceilings) where
   pub room-demand-2 : (old : List ℕ) (n v : ℕ) (made : List ℕ) → ServedBy L old (fresh n) 0 v made → (cs : List Op) (room : List ℕ) → Passed L made (map on cs) room → Unrefused L (holding (state n [] [])) cs
       → Equals L (rustRun (manager [] [] n) cs) (load L room)
   room-demand-2 old n v made f cs room p u = subst (Equals L (rustRun (manager [] [] n) cs)) (sym (holds-run old n v made f (map on cs) room p)) (demand-2 L n cs u)
+
+-- demand 1 with document 01's ceilings, for what every call on a room is proved to leave
+pub served-demand-1 : (room : List ℕ) (c : Call) (s v : ℕ) (room' : List ℕ) → Served room c s v room' → Demand1 base room c s v room'
+served-demand-1 = room-demand-1 base base-small

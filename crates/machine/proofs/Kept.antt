@@ -1,5 +1,5 @@
 -- Every call leaves a machine state where it found one.
-use Prim.Native.Nat.{ℕ, _≤_, _<_, max}
+use Prim.Native.Nat.{ℕ, _≤_, max}
 use mathlib.Core.Path.{_≡_, refl}
 use mathlib.Core.Bool.{Bool, true, _&&_, not, and-eq-true-iff}
 use mathlib.Core.List.{List, [], _∷_}

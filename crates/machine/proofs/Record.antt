@@ -1,5 +1,5 @@
 -- Demand 3: over any calls from a fresh room, a check says conflict exactly when the full record has one.
-use Prim.Native.Nat.{ℕ, _<_, max}
+use Prim.Native.Nat.{ℕ, max}
 use mathlib.Core.Path.{_≡_, refl, sym, ap, _∙_, subst}
 use mathlib.Core.Bool.{Bool, true, false, cond, false≢true}
 use mathlib.Core.List.{List, [], _∷_, _++_, append-nil}

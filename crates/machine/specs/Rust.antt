@@ -16,7 +16,7 @@ use Rattle.fields.specs.Fields.{keyList, boundsOf}
 use Rattle.machine.specs.Lists.{any, keep}
 use Rattle.machine.specs.State.{Bytes, Txn, Entry, State, Ceilings}
 use Rattle.machine.specs.Sets.{equal, insertAll, put, find, without}
-use Rattle.machine.specs.Calls.{Op, begin, trackWrites, trackReads, trackRange, check, commit, batch, dropTxn, minimum, Call, fresh, on, Room, Reply}
+use Rattle.machine.specs.Calls.{Op, begin, trackWrites, trackReads, trackRange, check, commit, batch, dropTxn, minimum, on, Room}
 use Rattle.machine.specs.Serve.{serve}
 use Rattle.machine.specs.Table.{isNil}
 

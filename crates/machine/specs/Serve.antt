@@ -51,7 +51,7 @@ abbrev pub addRange : Range → Txn → Txn
 addRange r t =
     record { id = t .id; start = t .start; writes = t .writes; reads = t .reads; ranges = t .ranges ++ (r ∷ []) }
 
--- row 6 for every call: the state afterwards must keep the ceilings (Table.antt has document 01's words for each)
+-- row 6 for every call: the state afterwards must keep the ceilings (Words.antt has document 01's words for each)
 abbrev pub settle : Ceilings → ℕ → State → Answer
 settle L v s = do
   need (fits L s) full

@@ -1,5 +1,5 @@
--- Document 01's table of statuses as tests, for a call on a machine state; Words.antt has it in plain words, and `status-is` says that
--- every call gets the status of both. Serve.antt has one rule for row 6; `rows` says that it gives the same.
+-- Document 01's table of statuses as tests, for a call on a machine state; Words.antt has it in plain words, and `malformed-means` and
+-- its like say that they agree. Serve.antt has one rule for row 6; `rows` says that it gives the same.
 use Prim.Native.Nat.{ℕ, suc}
 use mathlib.Core.Bool.{Bool, true, false, cond, not, _&&_, _||_}
 use mathlib.Core.List.{List, [], _∷_}

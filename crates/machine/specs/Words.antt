@@ -1,5 +1,5 @@
 -- Document 01's table of statuses in plain words, for a call on a machine state: when each row's condition holds, which row is the
--- first, and what is answered. Table.antt has the same conditions as tests; a theorem says that they agree.
+-- first, and what is answered. Table.antt has the same conditions as tests: `malformed-means` and its like say that they agree.
 use Prim.Native.Nat.{ℕ, _+_, _-_, _<_, max}
 use mathlib.Core.Path.{_≡_}
 use mathlib.Core.Bool.{false}
