@@ -1,6 +1,6 @@
 -- Document 01, "The simple machine" and "Room and its ceilings": states, marks and key bytes, and which states are machine
 -- states.
-use Prim.Native.Nat.{ℕ, _+_, _≤_}
+use Prim.Native.Nat.{ℕ, _+_, _≤_, max}
 use mathlib.Core.Path.{_≡_}
 use mathlib.Core.Bool.{Bool, true, _&&_}
 use mathlib.Core.List.{List, [], _∷_}
@@ -35,6 +35,23 @@ pub record State : Type 0 where
   pub last : ℕ
   pub active : List Txn
   pub entries : List Entry
+
+-- a state is made by what it changes, so that a part more moves these alone
+abbrev pub freshState : ℕ → State
+freshState n = record { last = n; active = []; entries = [] }
+
+abbrev pub withLast : ℕ → State → State
+withLast n s = record { last = n; active = s .active; entries = s .entries }
+
+abbrev pub withActive : List Txn → State → State
+withActive ts s = record { last = s .last; active = ts; entries = s .entries }
+
+abbrev pub withEntries : List Entry → State → State
+withEntries es s = record { last = s .last; active = s .active; entries = es }
+
+-- "the number advances": it becomes the larger of old and new
+abbrev pub advanced : ℕ → State → State
+advanced n s = withLast (max (s .last) n) s
 
 -- "32 active, 128 entries, 1,024 marks, 32,768 key bytes", and the key limit
 pub record Ceilings : Type 0 where
