@@ -2,7 +2,7 @@ use std::env;
 use std::path::PathBuf;
 use std::process;
 
-/// Links the manager's proved archive: the repository's own, unless STRANVEK_ARCHIVE_DIR names another folder.
+/// Links the proved archive: the repository's own, unless STRANVEK_ARCHIVE_DIR names another folder.
 fn main() {
     println!("cargo:rerun-if-env-changed=STRANVEK_ARCHIVE_DIR");
     let folder = match env::var_os("STRANVEK_ARCHIVE_DIR") {
@@ -13,7 +13,7 @@ fn main() {
             PathBuf::from(manifest).join("../../target/staticlib")
         }
     };
-    let archive = folder.join("libdesk.a");
+    let archive = folder.join("libstranvek.a");
     println!("cargo:rerun-if-changed={}", archive.display());
     if !archive.exists() {
         eprintln!("{} is not there, the proved archive that this crate links.", archive.display());
@@ -22,7 +22,7 @@ fn main() {
         process::exit(1);
     }
     println!("cargo:rustc-link-search=native={}", folder.display());
-    println!("cargo:rustc-link-lib=static=desk");
-    // The build script of a crate that links the other archive reads this.
-    println!("cargo:archives={}", folder.display());
+    println!("cargo:rustc-link-lib=static=stranvek");
+    // The build script of a crate whose tests read the archive's symbols asks for this.
+    println!("cargo:archive={}", archive.display());
 }

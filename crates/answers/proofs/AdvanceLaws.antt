@@ -10,7 +10,7 @@ use Rattle.layout.proofs.LoadLaws.{Changed}
 use Rattle.room.specs.declared.View.{View}
 use Rattle.room.specs.Views.{Seen}
 use Rattle.edits.proofs.LaidLaws.{Laid, entriesOf, activeOf, laid-last, laid-end, laid-number}
-use Rattle.oracle.specs.Advance.{Advanced}
+use Rattle.edits.specs.Advance.{Advanced}
 use Rattle.answers.proofs.ChangeLaws.{relaid}
 
 -- the number advances once all else stands

@@ -5,13 +5,13 @@ use mathlib.Core.Bool.{Bool, true, false, cond, _||_}
 use mathlib.Core.List.{List}
 use Rattle.keys.specs.Order.{isLess}
 use Rattle.kinds.specs.declared.kind.Kind.{Kind}
-use Rattle.sides.specs.declared.Side.{Side}
-use Rattle.sides.specs.declared.Side.the-variants.{First, Second}
-use Rattle.sides.specs.declared.Combined.{Combined}
-use Rattle.sides.specs.declared.Combined.the-variants.{Of, Nothing}
+use Rattle.bounds.specs.declared.sides.Side.{Side}
+use Rattle.bounds.specs.declared.sides.Side.the-variants.{First, Second}
+use Rattle.bounds.specs.declared.sides.Combined.{Combined}
+use Rattle.bounds.specs.declared.sides.Combined.the-variants.{Of, Nothing}
 use Rattle.kinds.specs.Bounds.{Bound, bound}
 use Rattle.bounds.specs.Ranges.{Range, range, notEmptyPair, touches, rangeOrder, intersectOf, joinOf, unionOf}
-use Rattle.sides.specs.Sides.{sided, maxStart, minEnd, maxEnd, isGiven, swapSides}
+use Rattle.bounds.specs.Sides.{sided, maxStart, minEnd, maxEnd, isGiven, swapSides}
 
 sided-bound : (s : Side) (k l : Kind) (x y : List ℕ) → sided s (bound k x) (bound l y) ≡ bound (sided s k l) (sided s x y)
 sided-bound First k l x y = refl

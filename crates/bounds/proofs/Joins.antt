@@ -6,13 +6,13 @@ use mathlib.Core.List.{List}
 use mathlib.Core.Ordering.{Ordering, lt, eq, gt, swap, then}
 use Rattle.keys.specs.Order.{order, isLess, isSame, notMore}
 use Rattle.keys.proofs.OrderLaws.{less-is, not-more-trans, not-more-swap, less-not-more}
-use Rattle.sides.specs.declared.Side.{Side}
-use Rattle.sides.specs.declared.Side.the-variants.{First, Second}
-use Rattle.sides.specs.declared.Combined.{Combined}
-use Rattle.sides.specs.declared.Combined.the-variants.{Of, Nothing}
+use Rattle.bounds.specs.declared.sides.Side.{Side}
+use Rattle.bounds.specs.declared.sides.Side.the-variants.{First, Second}
+use Rattle.bounds.specs.declared.sides.Combined.{Combined}
+use Rattle.bounds.specs.declared.sides.Combined.the-variants.{Of, Nothing}
 use Rattle.kinds.specs.Bounds.{Bound, startOrder, endOrder, startAdmits, endAdmits}
 use Rattle.bounds.specs.Ranges.{Range, holds, notEmpty, taken, touches, rangeOrder, intersectOf, joinOf, unionOf}
-use Rattle.sides.specs.Sides.{sided, maxEnd, isGiven, swapSides}
+use Rattle.bounds.specs.Sides.{sided, maxEnd, isGiven, swapSides}
 use Rattle.kinds.proofs.Cuts.{before, startCut, endCut, start-order, end-order, start-admits, end-admits, start-wider, end-wider}
 use Rattle.kinds.proofs.BoundOrder.{start-total, end-total, at-itself, by-more, either-way}
 use Rattle.bounds.proofs.PairCuts.{not-empty, touching}

@@ -5,12 +5,12 @@ use mathlib.Core.Bool.{Bool, true, false, cond, _&&_}
 use mathlib.Core.List.{List}
 use Rattle.keys.specs.Order.{isMore, notMore}
 use Rattle.keys.proofs.OrderLaws.{not-more-less}
-use Rattle.sides.specs.declared.Side.{Side}
-use Rattle.sides.specs.declared.Side.the-variants.{First, Second}
-use Rattle.sides.specs.declared.Combined.the-variants.{Of, Nothing}
+use Rattle.bounds.specs.declared.sides.Side.{Side}
+use Rattle.bounds.specs.declared.sides.Side.the-variants.{First, Second}
+use Rattle.bounds.specs.declared.sides.Combined.the-variants.{Of, Nothing}
 use Rattle.kinds.specs.Bounds.{Bound, startAdmits, endAdmits}
 use Rattle.bounds.specs.Ranges.{Range, range, holds, notEmpty, taken, intersectOf}
-use Rattle.sides.specs.Sides.{sided, maxStart, minEnd, isGiven}
+use Rattle.bounds.specs.Sides.{sided, maxStart, minEnd, isGiven}
 use Rattle.kinds.proofs.Cuts.{before, startCut, endCut, start-admits, end-admits, start-wider, end-wider}
 use Rattle.kinds.proofs.BoundOrder.{start-total, end-total, by-more, either-way}
 use Rattle.bounds.proofs.PairCuts.{not-empty}

@@ -5,9 +5,9 @@ use mathlib.Core.Ordering.{Ordering, lt, eq, gt, swap, then, gt≢lt}
 use Rattle.keys.specs.Order.{isMore, notMore}
 use Rattle.kinds.specs.Bounds.{startOrder, endOrder}
 use Rattle.kinds.proofs.BoundOrder.{IsTotal, both-tie, start-total, end-total, at-itself, by-more}
-use Rattle.sides.specs.declared.Side.the-variants.{First, Second}
+use Rattle.bounds.specs.declared.sides.Side.the-variants.{First, Second}
 use Rattle.bounds.specs.Ranges.{Range, range, rangeOrder}
-use Rattle.sides.specs.Sides.{sided}
+use Rattle.bounds.specs.Sides.{sided}
 
 range-same : (a b : Range) → rangeOrder a b ≡ eq → a ≡ b
 range-same a b e =

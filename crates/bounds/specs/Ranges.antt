@@ -5,12 +5,12 @@ use mathlib.Core.List.{List}
 use mathlib.Core.Ordering.{Ordering, lt, eq, gt, then}
 use Rattle.keys.specs.Order.{order, isLess, isSame, notMore}
 use Rattle.bounds.specs.declared.comparable_range.ComparableRange.{ComparableRange}
-use Rattle.sides.specs.declared.Side.{Side}
-use Rattle.sides.specs.declared.Side.the-variants.{First}
-use Rattle.sides.specs.declared.Combined.{Combined}
-use Rattle.sides.specs.declared.Combined.the-variants.{Of, Nothing}
+use Rattle.bounds.specs.declared.sides.Side.{Side}
+use Rattle.bounds.specs.declared.sides.Side.the-variants.{First}
+use Rattle.bounds.specs.declared.sides.Combined.{Combined}
+use Rattle.bounds.specs.declared.sides.Combined.the-variants.{Of, Nothing}
 use Rattle.kinds.specs.Bounds.{Bound, unbounded, included, excluded, bound, startOrder, endOrder, startAdmits, endAdmits}
-use Rattle.sides.specs.Sides.{sided, maxStart, minEnd, maxEnd, isGiven, swapSides}
+use Rattle.bounds.specs.Sides.{sided, maxStart, minEnd, maxEnd, isGiven, swapSides}
 
 pub record Range : Type 0 where
   pub start : Bound

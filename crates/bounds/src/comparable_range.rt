@@ -3,13 +3,13 @@ ghost use lib.IntN.{ℤ};
 ghost use Rattle.keys.specs.Order.{sign};
 ghost use Rattle.kinds.specs.Bounds.{bound};
 ghost use Rattle.bounds.specs.Ranges.{range, rangeOf, everything, rangeOrder, holds, notEmpty, touchesPair, intersectOf, joinOf, unionOf};
-ghost use Rattle.sides.specs.Sides.{sided, maxStart, minEnd};
+ghost use Rattle.bounds.specs.Sides.{sided, maxStart, minEnd};
+use crate::sides::Combined;
+use crate::sides::Side;
+use crate::sides::max_end;
+use crate::sides::max_start;
+use crate::sides::min_end;
 use kinds::kind::Kind;
-use sides::Combined;
-use sides::Side;
-use sides::max_end;
-use sides::max_start;
-use sides::min_end;
 
 // A pair of bounds: the kinds, with the keys in slices beside them.
 pub struct ComparableRange {

@@ -24,7 +24,7 @@ use Rattle.places.specs.declared.finds.Place.{Place}
 use Rattle.places.specs.Finds.{Found}
 use Rattle.edits.specs.Edits.{freshHead}
 use Rattle.edits.proofs.LaidLaws.{Laid, entriesOf, activeOf, laid-last, laid-entries, laid-active, laid-end, laid-number}
-use Rattle.oracle.specs.Advance.{Advanced}
+use Rattle.edits.specs.Advance.{Advanced}
 use Rattle.answers.proofs.ChangeLaws.{relaid, laid-enter, fresh-changed}
 use Rattle.answers.proofs.StateLaws.{none-left}
 use Rattle.answers.proofs.EnterLaws.{commit-malformed, commit-absent, commit-alone, commit-full, commit-done}

@@ -16,7 +16,7 @@ use Rattle.layout.specs.Places.{Part, Here, Ends}
 use Rattle.layout.proofs.PartLaws.{part-end, part-slice}
 use Rattle.layout.proofs.OpenLaws.{open-txn}
 use Rattle.places.proofs.EndLaws.{here-of}
-use Rattle.drafts.specs.Drafts.{setSize}
+use Rattle.tracks.specs.Drafts.{setSize}
 use Rattle.commits.specs.Commits.{Leaving, Entered}
 
 -- where the writes stand

@@ -1,3 +1,4 @@
 pub mod EditLaws
 pub mod PruneLaws
 pub mod LaidLaws
+pub mod OracleLaws

@@ -25,6 +25,8 @@ use moves::shift;
 use moves::splice;
 use places::skips::entry_past;
 
+pub mod oracle;
+
 // Takes `n` bytes at a place out of the first `used` ones.
 pub fn remove(room: &mut [u8], used: usize, at: usize, n: usize)
     requires { ⌜ (at + n ≤ used) × (used ≤ length (now room)) ⌝ }

@@ -12,7 +12,7 @@ use Rattle.kinds.specs.declared.kind.Kind.{Kind}
 use Rattle.kinds.specs.declared.kind.Kind.the-variants.{Unbounded, Included, Excluded}
 use Rattle.kinds.specs.Bounds.{bound}
 use Rattle.bounds.specs.Ranges.{range}
-use Rattle.made.specs.Making.{kindOf}
+use Rattle.ranges.specs.Made.{kindOf}
 use Rattle.fields.specs.declared.FieldAt.{FieldAt}
 use Rattle.fields.specs.declared.NextKey.{NextKey}
 use Rattle.fields.specs.declared.Places.{Places}

@@ -11,7 +11,7 @@ use lib.ListN.{length}
 use Rattle.keys.specs.Order.{order, isLess}
 use Rattle.kinds.specs.Bounds.{Bound, unbounded, included, excluded}
 use Rattle.bounds.specs.Ranges.{Range}
-use Rattle.made.specs.Making.{keyOf}
+use Rattle.ranges.specs.Made.{keyOf}
 use Rattle.machine.specs.Lists.{All}
 use Rattle.machine.specs.State.{Bytes, Txn, Entry, Ceilings, fits, Above, Ascends, SetOk, RangeOk, TxnOk, EntryOk, txnMarks, entryMarks}
 use Rattle.codec.specs.Codec.{RunOk}

@@ -10,7 +10,7 @@ use lib.ListN.{length}
 use lib.Seq.{slice}
 use Rattle.kinds.specs.Bounds.{Bound}
 use Rattle.bounds.specs.Ranges.{Range, notEmpty, range}
-use Rattle.made.specs.Making.{keyOf, kindOf}
+use Rattle.ranges.specs.Made.{keyOf, kindOf}
 use Rattle.fields.specs.Forms.{boundTag}
 use Rattle.machine.specs.State.{Bytes, Txn, Entry}
 use Rattle.codec.specs.Codec.{Codec}

@@ -6,7 +6,7 @@ use native.Mathlib.Omega.{arith}
 use lib.ListN.{length, length-append}
 use Rattle.kinds.specs.Bounds.{Bound}
 use Rattle.bounds.specs.Ranges.{Range}
-use Rattle.made.specs.Making.{keyOf, kindOf}
+use Rattle.ranges.specs.Made.{keyOf, kindOf}
 use Rattle.fields.specs.Forms.{boundTag}
 use Rattle.machine.specs.Lists.{sum, All}
 use Rattle.machine.specs.State.{Bytes, Txn, Entry, State, Ceilings, Fits, TxnOk, MachineState, setBytes, rangeBytes, txnBytes, entryBytes, txnMarks, entryMarks, marks}

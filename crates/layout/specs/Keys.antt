@@ -10,7 +10,7 @@ use lib.ListN.{length}
 use Rattle.keys.specs.Order.{order, isLess}
 use Rattle.kinds.specs.Bounds.{Bound, unbounded, included, excluded}
 use Rattle.bounds.specs.Ranges.{Range, range, notEmpty}
-use Rattle.made.specs.Making.{keyOf, kindOf}
+use Rattle.ranges.specs.Made.{keyOf, kindOf}
 use Rattle.fields.specs.Forms.{boundTag}
 use Rattle.machine.specs.State.{Bytes}
 use Rattle.codec.specs.Codec.{Codec}

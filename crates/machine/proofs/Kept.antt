@@ -10,7 +10,7 @@ use lib.Dec.{leb}
 use lib.ListN.{length}
 use borrow.Author.Tests.{leb-true, le-leb, eqb-true}
 use Rattle.bounds.specs.Ranges.{Range, notEmpty}
-use Rattle.made.specs.Making.{keyOf}
+use Rattle.ranges.specs.Made.{keyOf}
 use Rattle.fields.specs.Forms.{shortKeys}
 use Rattle.machine.specs.Lists.{sum, All}
 use Rattle.machine.specs.State.{Bytes, Txn, Entry, State, Ceilings, txnMarks, txnBytes, entryMarks, entryBytes, marks, keyBytes, fits, Fits, Ascends, ids, SetOk, RangeOk, TxnOk, EntryOk, MachineState}

@@ -10,7 +10,7 @@ use borrow.Author.Tests.{ltb-true, leb-true, leb-false, lt-ltb, lt-leb, eqb-true
 use lib.Dec.{leb, ltb}
 use lib.ListN.{length}
 use Rattle.bounds.specs.Ranges.{Range, notEmpty}
-use Rattle.made.specs.Making.{keyOf}
+use Rattle.ranges.specs.Made.{keyOf}
 use Rattle.fields.specs.Fields.{keyList, boundsOf}
 use Rattle.fields.specs.Forms.{shortKeys}
 use Rattle.machine.specs.State.{Bytes, Txn, State, Ceilings}

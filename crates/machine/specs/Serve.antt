@@ -7,7 +7,7 @@ use mathlib.Core.Option.{Option, none, some}
 use lib.Dec.{leb, eqb}
 use lib.ListN.{length}
 use Rattle.bounds.specs.Ranges.{Range, notEmpty}
-use Rattle.made.specs.Making.{keyOf}
+use Rattle.ranges.specs.Made.{keyOf}
 use Rattle.fields.specs.Fields.{keyList, boundsOf}
 use Rattle.fields.specs.Forms.{shortKeys}
 use Rattle.machine.specs.State.{Bytes, Txn, Entry, State, Ceilings, txnMarks, fits}

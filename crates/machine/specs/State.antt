@@ -10,7 +10,7 @@ use lib.ListN.{length}
 use Rattle.keys.specs.Limit.{keyLimit}
 use Rattle.keys.specs.Order.{order}
 use Rattle.bounds.specs.Ranges.{Range, notEmpty}
-use Rattle.made.specs.Making.{keyOf}
+use Rattle.ranges.specs.Made.{keyOf}
 use Rattle.machine.specs.Lists.{sum, All}
 
 abbrev pub Bytes : Type 0

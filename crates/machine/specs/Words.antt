@@ -8,7 +8,7 @@ use mathlib.Core.Logic.{_⊎_}
 use mathlib.Core.Option.{none, some}
 use lib.ListN.{length}
 use Rattle.bounds.specs.Ranges.{Range, notEmpty}
-use Rattle.made.specs.Making.{keyOf}
+use Rattle.ranges.specs.Made.{keyOf}
 use Rattle.fields.specs.Fields.{keyList, boundsOf}
 use Rattle.machine.specs.State.{Bytes, Txn, State, Ceilings, marks, keyBytes, setBytes, rangeBytes}
 use Rattle.machine.specs.Sets.{insertAll, find, least, prune, conflict}

@@ -24,7 +24,7 @@ pub fn drop_txn(room: &mut [u8], id: &[u8]) -> Answer
     ensures { λ r. ⌜ Served (now (room .entry)) (on (dropTxn (now (id .entry)))) (r .status) (r .value) (now (room .exit)) ⌝ }
 {
     match open(room) {
-        Opened::Of(view) => drops::drop_active(room, view, id),
+        Opened::Of(view) => commits::drop::drop_active(room, view, id),
         Opened::Bad => Answer::NO_STATE,
     }
 }
@@ -51,7 +51,7 @@ pub fn track_read_range(room: &mut [u8], id: &[u8], range: &[u8]) -> Answer
     ensures { λ r. ⌜ Served (now (room .entry)) (on (trackRange (now (id .entry)) (now (range .entry)))) (r .status) (r .value) (now (room .exit)) ⌝ }
 {
     match open(room) {
-        Opened::Of(view) => range_tracks::track_range(room, view, id, range),
+        Opened::Of(view) => tracks::range::track_range(room, view, id, range),
         Opened::Bad => Answer::NO_STATE,
     }
 }
@@ -69,7 +69,7 @@ pub fn track_recent_committed_txn(room: &mut [u8], id: &[u8], seq: u64) -> Answe
     ensures { λ r. ⌜ Served (now (room .entry)) (on (commit (now (id .entry)) seq)) (r .status) (r .value) (now (room .exit)) ⌝ }
 {
     match open(room) {
-        Opened::Of(view) => commits::commit_active(room, view, id, seq),
+        Opened::Of(view) => commits::commit::commit_active(room, view, id, seq),
         Opened::Bad => Answer::NO_STATE,
     }
 }
@@ -78,7 +78,7 @@ pub fn track_recent_committed_write_batch(room: &mut [u8], keys: &[u8], seq: u64
     ensures { λ r. ⌜ Served (now (room .entry)) (on (batch seq (now (keys .entry)))) (r .status) (r .value) (now (room .exit)) ⌝ }
 {
     match open(room) {
-        Opened::Of(view) => batches::batch_entry(room, view, seq, keys),
+        Opened::Of(view) => commits::batch::batch_entry(room, view, seq, keys),
         Opened::Bad => Answer::NO_STATE,
     }
 }

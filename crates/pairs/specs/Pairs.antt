@@ -7,11 +7,11 @@ use mathlib.Core.Option.{none, some}
 use mathlib.Core.Ordering.{lt}
 use mathlib.Core.Logic.{_↔_}
 use Rattle.keys.specs.Order.{order}
-use Rattle.sides.specs.declared.Side.the-variants.{First, Second}
-use Rattle.sides.specs.declared.Combined.the-variants.{Of, Nothing}
+use Rattle.bounds.specs.declared.sides.Side.the-variants.{First, Second}
+use Rattle.bounds.specs.declared.sides.Combined.the-variants.{Of, Nothing}
 use Rattle.kinds.specs.Bounds.{unbounded, included, excluded}
 use Rattle.bounds.specs.Ranges.{Range, range, holds, notEmpty, touches, unionOf}
-use Rattle.made.specs.Making.{status}
+use Rattle.ranges.specs.Made.{status}
 use Rattle.ranges.specs.Making.{newOf}
 use Rattle.ranges.specs.Prefixes.{increment, subrangeOf}
 use Rattle.machine.specs.State.{Bytes, State, base}

@@ -10,13 +10,13 @@ use Rattle.keys.specs.Limit.{keyLimit}
 use Rattle.kinds.specs.declared.kind.Kind.{Kind}
 use Rattle.kinds.specs.Bounds.{Bound, unbounded, included, excluded, bound}
 use Rattle.bounds.specs.Ranges.{Range, range, notEmpty}
-use Rattle.made.specs.declared.Making.{Making}
-use Rattle.made.specs.declared.Making.the-variants.{Done, TooLong, Empty}
-use Rattle.made.specs.declared.Made.{Made}
-use Rattle.made.specs.Making.{Sized, isDone, tooLong, kindOf, keyOf, padded, madeOf, made, madeBound}
+use Rattle.ranges.specs.declared.made.Making.{Making}
+use Rattle.ranges.specs.declared.made.Making.the-variants.{Done, TooLong, Empty}
+use Rattle.ranges.specs.declared.made.Made.{Made}
+use Rattle.ranges.specs.Made.{Sized, isDone, tooLong, kindOf, keyOf, padded, madeOf, made, madeBound}
 use Rattle.ranges.specs.Making.{newOf, madeAs, answered, madeRange}
 use Rattle.ranges.specs.Prefixes.{subrangeOf, subStart}
-use Rattle.made.proofs.MakingLaws.{take-padded, length-padded}
+use Rattle.ranges.proofs.MadeLaws.{take-padded, length-padded}
 
 done-by : (t : Bool) (b : Bound) → isDone (cond t (made TooLong unbounded) (made Done b) .making) ≡ true → cond t (made TooLong unbounded) (made Done b) ≡ made Done b
 done-by true b e = cc

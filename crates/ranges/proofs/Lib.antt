@@ -6,3 +6,4 @@ pub mod PrefixLaws
 pub mod MakingLaws
 pub mod SubrangeMaking
 pub mod Between
+pub mod MadeLaws

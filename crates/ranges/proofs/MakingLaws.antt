@@ -11,9 +11,9 @@ use Rattle.kinds.specs.declared.kind.Kind.{Kind}
 use Rattle.kinds.specs.declared.kind.Kind.the-variants.{Unbounded, Included, Excluded}
 use Rattle.kinds.specs.Bounds.{bound, isBounded}
 use Rattle.bounds.specs.Ranges.{Range, notEmpty}
-use Rattle.made.specs.declared.Making.the-variants.{Done, TooLong, Empty}
-use Rattle.made.specs.Making.{tooLong, padded, made}
-use Rattle.made.proofs.MakingLaws.{filled, bytes-of, put-within}
+use Rattle.ranges.specs.declared.made.Making.the-variants.{Done, TooLong, Empty}
+use Rattle.ranges.specs.Made.{tooLong, padded, made}
+use Rattle.ranges.proofs.MadeLaws.{filled, bytes-of, put-within}
 use Rattle.ranges.specs.Making.{newOf}
 use Rattle.ranges.specs.Prefixes.{increment, endAt}
 use Rattle.ranges.proofs.IncrementLaws.{increment-here}

@@ -11,8 +11,8 @@ use Rattle.keys.specs.Limit.{keyLimit}
 use Rattle.kinds.specs.declared.kind.Kind.{Kind}
 use Rattle.kinds.specs.declared.kind.Kind.the-variants.{Unbounded, Included, Excluded}
 use Rattle.kinds.specs.Bounds.{bound, included, isBounded, unbounded}
-use Rattle.made.specs.declared.Making.the-variants.{Done}
-use Rattle.made.specs.Making.{made, madeBound}
+use Rattle.ranges.specs.declared.made.Making.the-variants.{Done}
+use Rattle.ranges.specs.Made.{made, madeBound}
 use Rattle.ranges.specs.Prefixes.{increment, endAt, subStart, subEnd}
 use Rattle.ranges.proofs.IncrementLaws.{increment-fits}
 

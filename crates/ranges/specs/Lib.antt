@@ -1,3 +1,4 @@
 pub mod Making
 pub mod Prefixes
 pub mod Bytes
+pub mod Made

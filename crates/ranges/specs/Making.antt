@@ -7,10 +7,10 @@ use lib.ListN.{length}
 use Rattle.keys.specs.Limit.{keyLimit}
 use Rattle.kinds.specs.Bounds.{Bound, unbounded}
 use Rattle.bounds.specs.Ranges.{Range, notEmpty}
-use Rattle.made.specs.declared.Making.{Making}
-use Rattle.made.specs.declared.Making.the-variants.{Done, TooLong, Empty}
-use Rattle.made.specs.declared.Made.{Made}
-use Rattle.made.specs.Making.{tooLong, madeOf, made}
+use Rattle.ranges.specs.declared.made.Making.{Making}
+use Rattle.ranges.specs.declared.made.Making.the-variants.{Done, TooLong, Empty}
+use Rattle.ranges.specs.declared.made.Made.{Made}
+use Rattle.ranges.specs.Made.{tooLong, madeOf, made}
 use Rattle.ranges.specs.declared.bytes_range.MadeRange.{MadeRange}
 use Rattle.ranges.specs.Prefixes.{increment, endAt}
 

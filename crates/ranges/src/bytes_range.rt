@@ -5,14 +5,14 @@ ghost use Rattle.keys.specs.Limit.{keyLimit};
 ghost use Rattle.kinds.specs.Bounds.{Bound, bound, unbounded};
 ghost use Rattle.bounds.specs.Ranges.{range, rangeOf, everything, holds, isPoint};
 ghost use Rattle.ranges.specs.Prefixes.{increment, Raises, endAt, prefixRange, subrangeOf, subStart, subEnd};
-ghost use Rattle.made.specs.Making.{Sized, tooLong, made, madeBound};
+ghost use Rattle.ranges.specs.Made.{Sized, tooLong, made, madeBound};
 ghost use Rattle.ranges.specs.Making.{newOf, madeIncrement, madeRange, madeAs};
+use crate::made::Made;
+use crate::made::MadeBound;
+use crate::made::Making;
 use bounds::comparable_range::ComparableRange;
 use keys::KEY_LIMIT;
 use kinds::kind::Kind;
-use made::Made;
-use made::MadeBound;
-use made::Making;
 
 pub struct MadeRange {
     pub making: Making,
@@ -68,7 +68,7 @@ fn raised(prefix: &[u8]) -> Made
     requires { ⌜ (length (now prefix) ≤ keyLimit) × (0 < length (now prefix)) × (getD (now prefix) (length (now prefix) - 1) 0 < 255) ⌝ }
     ensures { λ r. ⌜ r ≡ made Making.Done (endAt (increment (now (prefix .entry)))) ⌝ }
 {
-    let mut bytes = made::with_bytes(made::zeros(), 0, prefix);
+    let mut bytes = crate::made::with_bytes(crate::made::zeros(), 0, prefix);
     let last = prefix.len() - 1;
     bytes[last] = prefix[last] + 1;
     let bound = MadeBound {
@@ -113,12 +113,12 @@ fn start_of(prefix: &[u8], start: Kind, suffix: &[u8]) -> Made
     ensures { λ r. ⌜ r ≡ madeBound (subStart (now (prefix .entry)) (bound start (now (suffix .entry)))) ⌝ }
 {
     if start.bounded() {
-        return made::joined(start, prefix, suffix);
+        return crate::made::joined(start, prefix, suffix);
     }
     if prefix.len() == 0 {
         return Made::nothing(Making::Done);
     }
-    made::joined(Kind::Included, prefix, &suffix[..0])
+    crate::made::joined(Kind::Included, prefix, &suffix[..0])
 }
 
 // The end of a prefix's subrange: unbounded is up to the prefix's increment.
@@ -127,7 +127,7 @@ fn end_of(prefix: &[u8], end: Kind, suffix: &[u8]) -> Made
     ensures { λ r. ⌜ r ≡ madeBound (subEnd (now (prefix .entry)) (bound end (now (suffix .entry)))) ⌝ }
 {
     if end.bounded() {
-        return made::joined(end, prefix, suffix);
+        return crate::made::joined(end, prefix, suffix);
     }
     increment(prefix)
 }

@@ -3,7 +3,7 @@ use Prim.{Unit}
 use Prim.Native.Nat.{ℕ, _+_, _≤_, _<_}
 use mathlib.Core.List.{List}
 use lib.ListN.{length}
-use Rattle.records.specs.Stream.{payloadLimit}
+use Rattle.script.specs.Stream.{payloadLimit}
 use Rattle.replay.specs.declared.Left.{Left}
 
 -- less than the longest record is left to hold: three bytes and the payload

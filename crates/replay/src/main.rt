@@ -5,11 +5,11 @@ ghost use lib.ListN.{length};
 ghost use Rattle.replay.specs.Left.{LeftIs};
 use libc::STDIN_FILENO;
 use libc::STDOUT_FILENO;
-use lines::put_stop;
 use manager::transaction_manager::new;
 use room::ceilings::SIZE;
 use script::feed::End;
 use script::feed::feed;
+use script::lines::put_stop;
 
 // More than the longest record, so that a partial one leaves place for the next read.
 const BUFFER: usize = 131072;

@@ -15,8 +15,8 @@ use Rattle.codec.specs.Places.{Stands}
 use Rattle.codec.proofs.NumberLaws.{length-number}
 use Rattle.codec.proofs.RecordLaws.{too-short}
 use Rattle.layout.specs.Records.{Head, headForm, stamp}
-use Rattle.walk.specs.Walks.{Missing, between}
-use Rattle.walk.proofs.GoingLaws.{follows-by}
+use Rattle.room.specs.Walks.{Missing, between}
+use Rattle.room.proofs.GoingLaws.{follows-by}
 use Rattle.room.specs.declared.Top.{Top}
 use Rattle.room.specs.Views.{HeadIs, idFollows}
 

@@ -20,9 +20,9 @@ use Rattle.layout.specs.Keys.{anyOrder}
 use Rattle.layout.specs.Records.{headForm, entryForm, txnForm, entriesForm, activeForm, belowId}
 use Rattle.layout.specs.States.{plainForm, stateForm, sound, inTime, idle, highest, seqOf, startOf}
 use Rattle.layout.specs.Rooms.{load}
-use Rattle.walk.specs.declared.tally.Tally.{Tally}
-use Rattle.walk.specs.Counts.{anEntry, aTxn, runOf, plus}
-use Rattle.walk.specs.Walks.{Got, Missing}
+use Rattle.room.specs.declared.tally.Tally.{Tally}
+use Rattle.room.specs.Counts.{anEntry, aTxn, runOf, plus}
+use Rattle.room.specs.Walks.{Got, Missing}
 use Rattle.room.specs.declared.Top.{Top}
 use Rattle.room.specs.Views.{HeadIs, Seen, NoState, soundly}
 

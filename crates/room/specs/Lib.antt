@@ -1,1 +1,4 @@
 pub mod Views
+pub mod Counts
+pub mod Walks
+pub mod BoundWalks

@@ -14,8 +14,8 @@ use Rattle.layout.specs.Keys.{below}
 use Rattle.layout.specs.Records.{Head, headForm, entryForm}
 use Rattle.layout.specs.States.{stateForm, roomSize}
 use Rattle.layout.specs.Rooms.{load}
-use Rattle.walk.specs.declared.tally.Tally.{Tally}
-use Rattle.walk.specs.Walks.{Missing}
+use Rattle.room.specs.declared.tally.Tally.{Tally}
+use Rattle.room.specs.Walks.{Missing}
 use Rattle.room.specs.declared.Top.{Top}
 use Rattle.room.specs.declared.Headed.{Headed}
 use Rattle.room.specs.declared.View.{View}

@@ -2,8 +2,8 @@
 ghost use mathlib.Core.Path.{_≡_};
 ghost use Prim.Native.Nat.{_+_, _≤_};
 ghost use lib.ListN.{length};
-ghost use Rattle.walk.specs.Walks.{Walks, Apart};
-ghost use Rattle.walk.specs.Counts.{anEntry, aTxn, runOf};
+ghost use Rattle.room.specs.Walks.{Walks, Apart};
+ghost use Rattle.room.specs.Counts.{anEntry, aTxn, runOf};
 ghost use Rattle.layout.specs.Keys.{anyOrder};
 ghost use Rattle.layout.specs.Records.{belowId};
 ghost use Rattle.room.specs.Views.{HeadAt, idFollows, soundly, Opening};
@@ -12,16 +12,20 @@ use crate::ceilings::BYTE_LIMIT;
 use crate::ceilings::ENTRY_LIMIT;
 use crate::ceilings::MARK_LIMIT;
 use crate::ceilings::SIZE;
+use crate::tally::Tally;
+use crate::tally::Walked;
 use layout::ACTIVE_COUNT;
 use layout::ENTRY_COUNT;
 use layout::HEAD;
 use layout::ID;
 use layout::LAST;
 use layout::STAMP;
-use walk::tally::Tally;
-use walk::tally::Walked;
 
 pub mod ceilings;
+pub mod range;
+pub mod record;
+pub mod set;
+pub mod tally;
 
 // The head of a room: the last number, how many entries, how many active.
 struct Top {
@@ -80,7 +84,7 @@ fn entries_end(room: &[u8], at: usize, n: usize) -> Walked
     let mut t = Tally::start(at);
     let mut left = n;
     while 0 < left {
-        match record_walk::record::entry_end(room, t.end) {
+        match crate::record::entry_end(room, t.end) {
             Walked::Ends(u) => {
                 t = t.joined(u);
                 left -= 1;
@@ -113,7 +117,7 @@ fn active_end(room: &[u8], at: usize, n: usize) -> Walked
     let mut p = at;
     let mut left = n;
     while 0 < left {
-        match record_walk::record::txn_end(room, t.end) {
+        match crate::record::txn_end(room, t.end) {
             Walked::Ends(u) => {
                 if !id_follows(room, p, t.end) {
                     return Walked::Cut;

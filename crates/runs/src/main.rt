@@ -4,12 +4,12 @@ ghost use lib.ListN.{length};
 use codec::numbers::read_eight;
 use libc::STDIN_FILENO;
 use libc::STDOUT_FILENO;
-use lines::LINE_LIMIT;
-use lines::put_line;
 use manager::transaction_manager::new;
-use records::Next;
-use records::next_record;
 use room::ceilings::SIZE;
+use script::lines::LINE_LIMIT;
+use script::lines::put_line;
+use script::records::Next;
+use script::records::next_record;
 use script::served::serve_record;
 
 const INPUT_LIMIT: usize = 262144;

@@ -8,12 +8,12 @@ use crate::text::put_order;
 use crate::text::put_status;
 use crate::text::put_test;
 use bounds::comparable_range::ComparableRange;
+use bounds::sides::Combined;
 use keys::KEY_LIMIT;
-use made::Made;
-use made::MadeBound;
 use ranges::bytes_range::BytesRange;
 use ranges::bytes_range::MadeRange;
-use sides::Combined;
+use ranges::made::Made;
+use ranges::made::MadeBound;
 
 // The four keys and the kinds of r and s are those of the query's fields, in their order.
 pub fn answer<'a>(

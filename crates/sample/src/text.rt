@@ -4,7 +4,7 @@ use crate::field::INCLUDED;
 use crate::field::UNBOUNDED;
 use kinds::kind::Kind;
 use libc::STDOUT_FILENO;
-use made::Making;
+use ranges::made::Making;
 
 pub fn put(text: &[u8]) {
     io::write_all(STDOUT_FILENO, text);

@@ -7,8 +7,8 @@ use mathlib.Core.List.{List, [], _++_}
 use native.Mathlib.Omega.{arith}
 use lib.ListN.{length, drop, length-drop, take-append-drop}
 use lib.Seq.{length-take-le}
-use Rattle.lines.specs.Lines.{lineOf}
-use Rattle.records.specs.Stream.{Next, next, whole, more, stop, isWhole}
+use Rattle.script.specs.Lines.{lineOf}
+use Rattle.script.specs.Stream.{Next, next, whole, more, stop, isWhole}
 use Rattle.machine.specs.State.{base}
 use Rattle.machine.specs.Calls.{Call, Room, Reply, replied}
 use Rattle.machine.specs.Serve.{serve}

@@ -6,11 +6,11 @@ use mathlib.Core.List.{List, _++_, append-assoc, append-nil}
 use native.Mathlib.Omega.{arith}
 use lib.ListN.{length, take, drop, length-append, length-drop}
 use Rattle.moves.proofs.SpliceLaws.{drop-take, later}
-use Rattle.lines.specs.Lines.{lineOf, Put}
-use Rattle.lines.proofs.LineLaws.{put-front, put-behind, put-size}
-use Rattle.records.specs.Stream.{next, whole, isWhole}
-use Rattle.records.specs.Records.{WholeAt}
-use Rattle.records.proofs.StreamLaws.{whole-stays, whole-shrinks}
+use Rattle.script.specs.Lines.{lineOf, Put}
+use Rattle.script.proofs.LineLaws.{put-front, put-behind, put-size}
+use Rattle.script.specs.Stream.{next, whole, isWhole}
+use Rattle.script.specs.Records.{WholeAt}
+use Rattle.script.proofs.StreamLaws.{whole-stays, whole-shrinks}
 use Rattle.layout.specs.Rooms.{Served}
 use Rattle.script.specs.Script.{called}
 use Rattle.script.specs.Played.{Played, still, onward, endLine, Prints, FedTo}

@@ -1,2 +1,5 @@
 pub mod Script
 pub mod Played
+pub mod Lines
+pub mod Stream
+pub mod Records

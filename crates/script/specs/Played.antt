@@ -4,9 +4,9 @@ use mathlib.Core.Path.{_≡_}
 use mathlib.Core.Bool.{false}
 use mathlib.Core.List.{List, [], _∷_, _++_}
 use lib.ListN.{length, take, drop}
-use Rattle.lines.specs.Lines.{lineOf, stopLine, lineLimit}
-use Rattle.records.specs.Stream.{next, whole, isWhole}
-use Rattle.records.specs.Records.{MoreAt, StopAt}
+use Rattle.script.specs.Lines.{lineOf, stopLine, lineLimit}
+use Rattle.script.specs.Stream.{next, whole, isWhole}
+use Rattle.script.specs.Records.{MoreAt, StopAt}
 use Rattle.layout.specs.Rooms.{Served}
 use Rattle.script.specs.Script.{called}
 use Rattle.script.specs.declared.feed.End.{End}

@@ -1,10 +1,10 @@
 // A piece of a script fed to a room: its whole records served in order, and the lines of their answers put.
 ghost use Rattle.script.specs.Played.{FedIs};
+use crate::lines::LINE_LIMIT;
+use crate::lines::put_line;
+use crate::records::Next;
+use crate::records::next_record;
 use crate::served::serve_record;
-use lines::LINE_LIMIT;
-use lines::put_line;
-use records::Next;
-use records::next_record;
 
 // Why feeding ended: the next record is not whole yet, it ends the run, or there is no place for its line.
 pub enum End {

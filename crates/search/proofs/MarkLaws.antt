@@ -11,7 +11,7 @@ use Rattle.bounds.specs.Ranges.{Range, range, rangeOf, holds}
 use Rattle.bounds.specs.declared.comparable_range.ComparableRange.{ComparableRange}
 use Rattle.kinds.specs.declared.kind.Kind.{Kind}
 use Rattle.kinds.specs.declared.kind.Kind.the-variants.{Unbounded, Included, Excluded}
-use Rattle.made.specs.Making.{keyOf, kindOf}
+use Rattle.ranges.specs.Made.{keyOf, kindOf}
 use Rattle.fields.specs.Forms.{boundTag}
 use Rattle.machine.specs.State.{Bytes, base}
 use Rattle.machine.specs.Sets.{equal}

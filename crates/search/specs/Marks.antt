@@ -6,7 +6,7 @@ use mathlib.Core.List.{List, _++_, map}
 use Rattle.kinds.specs.Bounds.{Bound}
 use Rattle.bounds.specs.Ranges.{Range, holds}
 use Rattle.kinds.specs.declared.kind.Kind.{Kind}
-use Rattle.made.specs.Making.{kindOf}
+use Rattle.ranges.specs.Made.{kindOf}
 use Rattle.machine.specs.State.{Bytes, Txn, base}
 use Rattle.machine.specs.Sets.{equal}
 use Rattle.layout.specs.Keys.{keyForm, boundForm, rangeForm}

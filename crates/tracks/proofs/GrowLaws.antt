@@ -21,9 +21,9 @@ use Rattle.layout.proofs.PartLaws.{part-one, part-ok, part-end, number-read-is}
 use Rattle.layout.proofs.RowLaws.{row-slice, row-of}
 use Rattle.layout.proofs.OpenLaws.{OpenList, open-set}
 use Rattle.layout.proofs.SizeLaws.{keys-length, set-length}
-use Rattle.sets.specs.Sets.{Key}
-use Rattle.drafts.specs.declared.Drafted.{Drafted}
-use Rattle.drafts.specs.Drafts.{Begun, SetStands, DraftedIs}
+use Rattle.tracks.specs.Sets.{Key}
+use Rattle.tracks.specs.declared.drafts.Drafted.{Drafted}
+use Rattle.tracks.specs.Drafts.{Begun, SetStands, DraftedIs}
 use Rattle.tracks.specs.declared.Grown.{Grown}
 use Rattle.tracks.specs.Tracks.{Growable, Outcome, GrownIs}
 

@@ -1,3 +1,13 @@
 pub mod GrowLaws
 pub mod SetLaws
 pub mod KeysLaws
+pub mod KeyLaws
+pub mod FindLaws
+pub mod PutLaws
+pub mod TotalLaws
+pub mod InsertLaws
+pub mod DraftLaws
+pub mod BoundsLaws
+pub mod AppendLaws
+pub mod JudgeLaws
+pub mod RangeLaws

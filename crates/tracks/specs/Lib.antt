@@ -1,1 +1,4 @@
 pub mod Tracks
+pub mod Sets
+pub mod Drafts
+pub mod Ranges

@@ -6,10 +6,10 @@ ghost use Rattle.layout.specs.Rooms.{Served};
 ghost use Rattle.layout.specs.Places.{Here};
 ghost use Rattle.room.specs.Views.{Seen};
 ghost use Rattle.tracks.specs.Tracks.{tracking, SetAt, Growable, GrownIs};
+use crate::drafts::Drafted;
+use crate::drafts::draft_keys;
 use answers::Answer;
 use codec::numbers::read_two;
-use drafts::Drafted;
-use drafts::draft_keys;
 use fields::Form;
 use fields::check_keys;
 use layout::COUNT;
@@ -24,6 +24,10 @@ use room::View;
 use room::ceilings::BYTE_LIMIT;
 use room::ceilings::MARK_LIMIT;
 use room::ceilings::SET_SIZE;
+
+pub mod drafts;
+pub mod range;
+pub mod sets;
 
 // How many keys are new in a set, if they fit.
 enum Grown {

@@ -6,7 +6,7 @@ use borrow.Author.Needs.{needs}
 use borrow.Rule.Slice.PartAt.{part-to-end}
 use denote.Ref.{now}
 use lib.ListN.{length, take, drop, length-drop}
-use Rattle.records.specs.Records.{MoreAt}
+use Rattle.script.specs.Records.{MoreAt}
 use Rattle.script.specs.Played.{FedTo}
 use Rattle.replay.specs.Left.{Held}
 use Rattle.replay.proofs.play_piece.Statement.{statement}

@@ -1,12 +1,12 @@
 use native.Mathlib.Omega.{arith}
-use Rattle.lines.proofs.LineLaws.{stop-short}
+use Rattle.script.proofs.LineLaws.{stop-short}
 use borrow.Author.Needs.{needs}
 use Rattle.replay.proofs.say_stop.Statement.{statement}
 use Rattle.replay.proofs.say_stop.Tie as tie
 use Rattle.replay.proofs.say_stop.Reads as reads
 use Rattle.replay.proofs.say_stop.Lts as lts
 use Rattle.io.proofs.write_all.Reads as write-all-reads
-use Rattle.lines.proofs.put_stop.Reads as put-stop-reads
+use Rattle.script.proofs.lines.put_stop.Reads as put-stop-reads
 
 -- src/main.rt:26:9
 put-stop-requires : tie.Need-put-stop-requires

@@ -3,10 +3,10 @@ use native.Mathlib.Omega.{arith}
 use borrow.Author.Tests.{not-true, not-false}
 use borrow.Author.Needs.{needs}
 use denote.Ref.{now}
-use Rattle.walk.specs.Walks.{Got}
-use Rattle.walk.specs.Counts.{aTxn}
-use Rattle.walk.proofs.GoingLaws.{Ordered, ascending, ordered-start, ordered-apart, ordered-next, ordered-unfit, ordered-cut, ordered-end, going-join}
-use Rattle.record_walk.proofs.EntryLaws.{idOf, idAt, txn-labelled}
+use Rattle.room.specs.Walks.{Got}
+use Rattle.room.specs.Counts.{aTxn}
+use Rattle.room.proofs.GoingLaws.{Ordered, ascending, ordered-start, ordered-apart, ordered-next, ordered-unfit, ordered-cut, ordered-end, going-join}
+use Rattle.room.proofs.EntryLaws.{idOf, idAt, txn-labelled}
 use Rattle.room.proofs.active_end.Statement.{statement}
 use Rattle.room.proofs.active_end.Tie as tie
 

@@ -2,9 +2,9 @@ use native.Mathlib.Omega.{arith}
 use borrow.Author.Needs.{needs}
 use denote.Ref.{now}
 use Rattle.layout.specs.Keys.{anyOrder}
-use Rattle.walk.specs.Walks.{Got}
-use Rattle.walk.specs.Counts.{anEntry}
-use Rattle.walk.proofs.GoingLaws.{Loose, loose-start, loose-next, loose-cut, loose-end, going-join}
+use Rattle.room.specs.Walks.{Got}
+use Rattle.room.specs.Counts.{anEntry}
+use Rattle.room.proofs.GoingLaws.{Loose, loose-start, loose-next, loose-cut, loose-end, going-join}
 use Rattle.room.proofs.entries_end.Statement.{statement}
 use Rattle.room.proofs.entries_end.Tie as tie
 

@@ -3,9 +3,9 @@ use borrow.Author.Needs.{needs}
 use denote.Ref.{now}
 use Rattle.layout.specs.Records.{belowId}
 use Rattle.layout.specs.Keys.{anyOrder}
-use Rattle.walk.specs.Walks.{Got}
-use Rattle.walk.specs.Counts.{anEntry, aTxn, runOf}
-use Rattle.walk.proofs.GoingLaws.{can-join}
+use Rattle.room.specs.Walks.{Got}
+use Rattle.room.specs.Counts.{anEntry, aTxn, runOf}
+use Rattle.room.proofs.GoingLaws.{can-join}
 use Rattle.room.specs.Views.{HeadIs}
 use Rattle.room.proofs.OpenLaws.{too-small, no-head, no-entries, no-active, not-sound, seen}
 use Rattle.room.proofs.open_record.Statement.{statement}

@@ -1,5 +1,5 @@
 use native.Mathlib.Omega.{arith}
-use Rattle.lines.proofs.LineLaws.{answer-short}
+use Rattle.script.proofs.LineLaws.{answer-short}
 use borrow.Author.Needs.{needs}
 use Rattle.runs.proofs.say.Statement.{statement}
 use Rattle.runs.proofs.say.Tie as tie

@@ -1,8 +1,8 @@
 use native.Mathlib.Omega.{arith}
 use borrow.Author.Needs.{needs}
 use denote.Ref.{now}
-use Rattle.records.specs.declared.Next.{Next}
-use Rattle.records.specs.Records.{NextIs}
+use Rattle.script.specs.declared.records.Next.{Next}
+use Rattle.script.specs.Records.{NextIs}
 use Rattle.runs.proofs.serve_at.Statement.{statement}
 use Rattle.runs.proofs.serve_at.Tie as tie
 

@@ -8,7 +8,7 @@ use Rattle.starts.proofs.begin.Reads as reads
 use Rattle.starts.proofs.begin.Lts as lts
 use Rattle.codec.proofs.numbers.write_two.Reads as write-two-reads
 use Rattle.edits.proofs.put_txn.Reads as put-txn-reads
-use Rattle.oracle.proofs.oracle.last_committed_seq.Reads as last-committed-seq-reads
+use Rattle.edits.proofs.oracle.last_committed_seq.Reads as last-committed-seq-reads
 use Rattle.places.proofs.finds.find_txn.Reads as find-txn-reads
 
 -- src/lib.rt:41:9

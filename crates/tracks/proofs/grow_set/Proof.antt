@@ -1,7 +1,7 @@
 use Prim.Native.Nat.{_+_, _-_}
 use denote.Ref.{now}
-use Rattle.drafts.specs.declared.Drafted.{Drafted}
-use Rattle.drafts.specs.Drafts.{DraftedIs}
+use Rattle.tracks.specs.declared.drafts.Drafted.{Drafted}
+use Rattle.tracks.specs.Drafts.{DraftedIs}
 use native.Mathlib.Omega.{arith}
 use Rattle.tracks.proofs.GrowLaws.{head-inside, Copied, set-inside, lent, fits-draft, copied, begun, not-grown, in-draft, more-keys, can-put, grown}
 use borrow.Author.Needs.{needs}
@@ -10,7 +10,7 @@ use Rattle.tracks.proofs.grow_set.Tie as tie
 use Rattle.tracks.proofs.grow_set.Reads as reads
 use Rattle.tracks.proofs.grow_set.Lts as lts
 use Rattle.codec.proofs.numbers.read_two.Reads as read-two-reads
-use Rattle.drafts.proofs.draft_keys.Reads as draft-keys-reads
+use Rattle.tracks.proofs.drafts.draft_keys.Reads as draft-keys-reads
 use Rattle.moves.proofs.copy_in.Reads as copy-in-reads
 use Rattle.moves.proofs.splice.Reads as splice-reads
 use Rattle.places.proofs.skips.set_past.Reads as set-past-reads

@@ -4,7 +4,7 @@ use Rattle.manager.proofs.transaction_manager.drop_txn.Statement.{state
 use Rattle.manager.proofs.transaction_manager.drop_txn.Tie as tie
 use Rattle.manager.proofs.transaction_manager.drop_txn.Reads as reads
 use Rattle.manager.proofs.transaction_manager.drop_txn.Lts as lts
-use Rattle.drops.proofs.drop_active.Reads as drop-active-reads
+use Rattle.commits.proofs.drop.drop_active.Reads as drop-active-reads
 use Rattle.room.proofs.open.Reads as open-reads
 
 -- src/transaction_manager.rt:29:11

@@ -5,7 +5,7 @@ use Rattle.manager.proofs.transaction_manager.track_read_range.Tie as t
 use Rattle.manager.proofs.transaction_manager.track_read_range.Reads as reads
 use Rattle.manager.proofs.transaction_manager.track_read_range.Lts as lts
 use Rattle.room.proofs.open.Reads as open-reads
-use Rattle.range_tracks.proofs.track_range.Reads as track-range-reads
+use Rattle.tracks.proofs.range.track_range.Reads as track-range-reads
 
 -- src/transaction_manager.rt:65:11
 open-requires : tie.Need-open-requires

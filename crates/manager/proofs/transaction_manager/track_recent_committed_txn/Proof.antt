@@ -6,7 +6,7 @@ use Rattle.manager.proofs.transaction_manager.track_recent_committed_tx
 use Rattle.manager.proofs.transaction_manager.track_recent_committed_txn.Tie as tie
 use Rattle.manager.proofs.transaction_manager.track_recent_committed_txn.Reads as reads
 use Rattle.manager.proofs.transaction_manager.track_recent_committed_txn.Lts as lts
-use Rattle.commits.proofs.commit_active.Reads as commit-active-reads
+use Rattle.commits.proofs.commit.commit_active.Reads as commit-active-reads
 use Rattle.room.proofs.open.Reads as open-reads
 
 -- src/transaction_manager.rt:77:11

@@ -6,7 +6,7 @@ use Rattle.manager.proofs.transaction_manager.track_recent_committed_wr
 use Rattle.manager.proofs.transaction_manager.track_recent_committed_write_batch.Tie as tie
 use Rattle.manager.proofs.transaction_manager.track_recent_committed_write_batch.Reads as reads
 use Rattle.manager.proofs.transaction_manager.track_recent_committed_write_batch.Lts as lts
-use Rattle.batches.proofs.batch_entry.Reads as batch-entry-reads
+use Rattle.commits.proofs.batch.batch_entry.Reads as batch-entry-reads
 use Rattle.room.proofs.open.Reads as open-reads
 
 -- src/transaction_manager.rt:89:11

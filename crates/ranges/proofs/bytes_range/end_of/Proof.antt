@@ -2,7 +2,7 @@ use borrow.Author.Needs.{needs}
 use mathlib.Core.Path.{sym, ap, _∙_}
 use native.Mathlib.Omega.{arith}
 use denote.Ref.{now}
-use Rattle.made.specs.Making.{madeBound}
+use Rattle.ranges.specs.Made.{madeBound}
 use Rattle.ranges.proofs.SubrangeMaking.{end-bounded, end-open}
 use Rattle.ranges.proofs.bytes_range.end_of.Statement.{statement}
 use Rattle.ranges.proofs.bytes_range.end_of.Tie as tie
@@ -10,7 +10,7 @@ use Rattle.ranges.proofs.bytes_range.end_of.Reads as reads
 use Rattle.ranges.proofs.bytes_range.end_of.Lts as lts
 use Rattle.kinds.proofs.kind.Kind.bounded.Reads as bounded-reads
 use Rattle.ranges.proofs.bytes_range.increment.Reads as increment-reads
-use Rattle.made.proofs.joined.Reads as joined-reads
+use Rattle.ranges.proofs.made.joined.Reads as joined-reads
 
 -- src/bytes_range.rt:165:8
 bounded-requires : tie.Need-bounded-requires

@@ -2,15 +2,15 @@ use borrow.Author.Needs.{needs}
 use mathlib.Core.Path.{sym, ap, _∙_}
 use native.Mathlib.Omega.{arith}
 use lib.Seq.{length-take-le}
-use Rattle.made.specs.declared.Making.the-variants.{Done}
-use Rattle.made.specs.Making.{made}
+use Rattle.ranges.specs.declared.made.Making.the-variants.{Done}
+use Rattle.ranges.specs.Made.{made}
 use Rattle.ranges.specs.Prefixes.{endAt}
 use Rattle.ranges.proofs.IncrementLaws.{raised-none, raised-part}
 use Rattle.ranges.proofs.bytes_range.increment.Statement.{statement}
 use Rattle.ranges.proofs.bytes_range.increment.Tie as tie
 use Rattle.ranges.proofs.bytes_range.increment.Reads as reads
 use Rattle.ranges.proofs.bytes_range.increment.Lts as lts
-use Rattle.made.proofs.Made.nothing.Reads as nothing-reads
+use Rattle.ranges.proofs.made.Made.nothing.Reads as nothing-reads
 use Rattle.ranges.proofs.bytes_range.increment_len.Reads as increment-len-reads
 use Rattle.ranges.proofs.bytes_range.raised.Reads as raised-reads
 

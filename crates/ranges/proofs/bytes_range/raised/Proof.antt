@@ -1,14 +1,14 @@
 use borrow.Author.Needs.{needs}
 use mathlib.Core.Path.{refl, sym, ap, _∙_}
 use native.Mathlib.Omega.{arith}
-use Rattle.made.proofs.MakingLaws.{front-bytes}
+use Rattle.ranges.proofs.MadeLaws.{front-bytes}
 use Rattle.ranges.proofs.MakingLaws.{raised-bytes}
 use Rattle.ranges.proofs.bytes_range.raised.Statement.{statement}
 use Rattle.ranges.proofs.bytes_range.raised.Tie as tie
 use Rattle.ranges.proofs.bytes_range.raised.Reads as reads
 use Rattle.ranges.proofs.bytes_range.raised.Lts as lts
-use Rattle.made.proofs.with_bytes.Reads as with-bytes-reads
-use Rattle.made.proofs.zeros.Reads as zeros-reads
+use Rattle.ranges.proofs.made.with_bytes.Reads as with-bytes-reads
+use Rattle.ranges.proofs.made.zeros.Reads as zeros-reads
 
 -- src/bytes_range.rt:118:32
 zeros-requires : tie.Need-zeros-requires

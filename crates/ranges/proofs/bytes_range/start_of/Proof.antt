@@ -2,15 +2,15 @@ use borrow.Author.Needs.{needs}
 use mathlib.Core.Path.{sym, ap, _∙_}
 use native.Mathlib.Omega.{arith}
 use denote.Ref.{now}
-use Rattle.made.specs.Making.{madeBound}
+use Rattle.ranges.specs.Made.{madeBound}
 use Rattle.ranges.proofs.SubrangeMaking.{start-bounded, start-all, start-open}
 use Rattle.ranges.proofs.bytes_range.start_of.Statement.{statement}
 use Rattle.ranges.proofs.bytes_range.start_of.Tie as tie
 use Rattle.ranges.proofs.bytes_range.start_of.Reads as reads
 use Rattle.ranges.proofs.bytes_range.start_of.Lts as lts
 use Rattle.kinds.proofs.kind.Kind.bounded.Reads as bounded-reads
-use Rattle.made.proofs.Made.nothing.Reads as nothing-reads
-use Rattle.made.proofs.joined.Reads as joined-reads
+use Rattle.ranges.proofs.made.Made.nothing.Reads as nothing-reads
+use Rattle.ranges.proofs.made.joined.Reads as joined-reads
 
 -- src/bytes_range.rt:151:8
 bounded-requires : tie.Need-bounded-requires

@@ -4,17 +4,17 @@ use native.Mathlib.Omega.{arith}
 use borrow.Author.Needs.{needs}
 use denote.Ref.{now}
 use lib.ListN.{length}
-use Rattle.lines.proofs.LineLaws.{answer-short}
-use Rattle.records.specs.declared.Next.{Next}
-use Rattle.records.specs.Records.{NextIs}
+use Rattle.script.proofs.LineLaws.{answer-short}
+use Rattle.script.specs.declared.records.Next.{Next}
+use Rattle.script.specs.Records.{NextIs}
 use Rattle.script.specs.Played.{FedTo}
 use Rattle.script.proofs.PlayedLaws.{fed-none, fed-on}
 use Rattle.script.proofs.feed.feed.Statement.{statement}
 use Rattle.script.proofs.feed.feed.Tie as tie
 use Rattle.script.proofs.feed.feed.Reads as reads
 use Rattle.script.proofs.feed.feed.Lts as lts
-use Rattle.lines.proofs.put_line.Reads as put-line-reads
-use Rattle.records.proofs.next_record.Reads as next-record-reads
+use Rattle.script.proofs.lines.put_line.Reads as put-line-reads
+use Rattle.script.proofs.records.next_record.Reads as next-record-reads
 use Rattle.script.proofs.served.serve_record.Reads as serve-record-reads
 
 abbrev Inv-loop : tie.InvT-loop

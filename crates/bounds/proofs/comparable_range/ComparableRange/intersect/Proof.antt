@@ -7,13 +7,13 @@ use Rattle.bounds.proofs.comparable_range.ComparableRange.intersect.Sta
 use Rattle.bounds.proofs.comparable_range.ComparableRange.intersect.Tie as tie
 use Rattle.bounds.proofs.comparable_range.ComparableRange.intersect.Reads as reads
 use Rattle.bounds.proofs.comparable_range.ComparableRange.intersect.Lts as lts
-use Rattle.sides.proofs.Combined.when.Reads as when-reads
+use Rattle.bounds.proofs.sides.Combined.when.Reads as when-reads
 use Rattle.bounds.proofs.comparable_range.ComparableRange.new.Reads as new-reads
 use Rattle.bounds.proofs.comparable_range.ComparableRange.non_empty.Reads as non-empty-reads
-use Rattle.sides.proofs.Side.key.Reads as key-reads
-use Rattle.sides.proofs.Side.kind.Reads as kind-reads
-use Rattle.sides.proofs.max_start.Reads as max-start-reads
-use Rattle.sides.proofs.min_end.Reads as min-end-reads
+use Rattle.bounds.proofs.sides.Side.key.Reads as key-reads
+use Rattle.bounds.proofs.sides.Side.kind.Reads as kind-reads
+use Rattle.bounds.proofs.sides.max_start.Reads as max-start-reads
+use Rattle.bounds.proofs.sides.min_end.Reads as min-end-reads
 
 max-start-requires : tie.Need-max-start-requires
 max-start-requires c κs = search needs

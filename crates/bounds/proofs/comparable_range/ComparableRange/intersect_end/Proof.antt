@@ -1,15 +1,15 @@
 use borrow.Author.Needs.{needs}
 use mathlib.Core.Path.{ap, _∙_}
 use denote.Ref.{now}
-use Rattle.sides.specs.Sides.{sided}
+use Rattle.bounds.specs.Sides.{sided}
 use Rattle.bounds.proofs.comparable_range.ComparableRange.intersect_end.Statement.{
   statement,
 }
 use Rattle.bounds.proofs.comparable_range.ComparableRange.intersect_end.Tie as tie
 use Rattle.bounds.proofs.comparable_range.ComparableRange.intersect_end.Reads as reads
 use Rattle.bounds.proofs.comparable_range.ComparableRange.intersect_end.Lts as lts
-use Rattle.sides.proofs.Side.key.Reads as key-reads
-use Rattle.sides.proofs.min_end.Reads as min-end-reads
+use Rattle.bounds.proofs.sides.Side.key.Reads as key-reads
+use Rattle.bounds.proofs.sides.min_end.Reads as min-end-reads
 
 min-end-requires : tie.Need-min-end-requires
 min-end-requires c κs = search needs

@@ -1,15 +1,15 @@
 use borrow.Author.Needs.{needs}
 use mathlib.Core.Path.{ap, _∙_}
 use denote.Ref.{now}
-use Rattle.sides.specs.Sides.{sided}
+use Rattle.bounds.specs.Sides.{sided}
 use Rattle.bounds.proofs.comparable_range.ComparableRange.intersect_start.Statement.{
   statement,
 }
 use Rattle.bounds.proofs.comparable_range.ComparableRange.intersect_start.Tie as tie
 use Rattle.bounds.proofs.comparable_range.ComparableRange.intersect_start.Reads as reads
 use Rattle.bounds.proofs.comparable_range.ComparableRange.intersect_start.Lts as lts
-use Rattle.sides.proofs.Side.key.Reads as key-reads
-use Rattle.sides.proofs.max_start.Reads as max-start-reads
+use Rattle.bounds.proofs.sides.Side.key.Reads as key-reads
+use Rattle.bounds.proofs.sides.max_start.Reads as max-start-reads
 
 max-start-requires : tie.Need-max-start-requires
 max-start-requires c κs = search needs

@@ -7,11 +7,11 @@ use Rattle.bounds.proofs.comparable_range.ComparableRange.join.Statemen
 use Rattle.bounds.proofs.comparable_range.ComparableRange.join.Tie as tie
 use Rattle.bounds.proofs.comparable_range.ComparableRange.join.Reads as reads
 use Rattle.bounds.proofs.comparable_range.ComparableRange.join.Lts as lts
-use Rattle.sides.proofs.Combined.is_given.Reads as is-given-reads
-use Rattle.sides.proofs.Combined.when.Reads as when-reads
+use Rattle.bounds.proofs.sides.Combined.is_given.Reads as is-given-reads
+use Rattle.bounds.proofs.sides.Combined.when.Reads as when-reads
 use Rattle.bounds.proofs.comparable_range.ComparableRange.are_adjacent.Reads as are-adjacent-reads
 use Rattle.bounds.proofs.comparable_range.ComparableRange.intersect.Reads as intersect-reads
-use Rattle.sides.proofs.max_end.Reads as max-end-reads
+use Rattle.bounds.proofs.sides.max_end.Reads as max-end-reads
 
 max-end-requires : tie.Need-max-end-requires
 max-end-requires c κs = search needs

@@ -3,13 +3,13 @@ use mathlib.Core.Path.{ap, _∙_}
 use denote.Ref.{now}
 use Rattle.keys.proofs.Signs.{on-lt}
 use Rattle.bounds.specs.Ranges.{rangeOf, rangeOrder}
-use Rattle.sides.specs.Sides.{swapSides}
+use Rattle.bounds.specs.Sides.{swapSides}
 use Rattle.bounds.proofs.Combining.{united}
 use Rattle.bounds.proofs.comparable_range.ComparableRange.union.Statement.{statement}
 use Rattle.bounds.proofs.comparable_range.ComparableRange.union.Tie as tie
 use Rattle.bounds.proofs.comparable_range.ComparableRange.union.Reads as reads
 use Rattle.bounds.proofs.comparable_range.ComparableRange.union.Lts as lts
-use Rattle.sides.proofs.Combined.swapped.Reads as swapped-reads
+use Rattle.bounds.proofs.sides.Combined.swapped.Reads as swapped-reads
 use Rattle.bounds.proofs.comparable_range.ComparableRange.compare.Reads as compare-reads
 use Rattle.bounds.proofs.comparable_range.ComparableRange.join.Reads as join-reads
 

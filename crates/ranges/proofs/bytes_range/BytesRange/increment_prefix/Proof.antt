@@ -4,7 +4,7 @@ use Rattle.ranges.proofs.bytes_range.BytesRange.increment_prefix.Statem
 use Rattle.ranges.proofs.bytes_range.BytesRange.increment_prefix.Tie as tie
 use Rattle.ranges.proofs.bytes_range.BytesRange.increment_prefix.Reads as reads
 use Rattle.ranges.proofs.bytes_range.BytesRange.increment_prefix.Lts as lts
-use Rattle.made.proofs.Made.nothing.Reads as nothing-reads
+use Rattle.ranges.proofs.made.Made.nothing.Reads as nothing-reads
 use Rattle.ranges.proofs.bytes_range.increment.Reads as increment-reads
 
 -- src/bytes_range.rt:290:13

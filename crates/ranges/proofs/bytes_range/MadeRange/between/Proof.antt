@@ -4,7 +4,7 @@ use native.Mathlib.Omega.{arith}
 use borrow.Author.Tests.{not-true, not-false}
 use lib.Seq.{length-take-le}
 use Rattle.bounds.specs.Ranges.{range}
-use Rattle.made.specs.declared.Making.the-variants.{Done}
+use Rattle.ranges.specs.declared.made.Making.the-variants.{Done}
 use Rattle.ranges.specs.Making.{newOf}
 use Rattle.ranges.proofs.Between.{was-made, was-long, read-back, long-start, long-end, stands, falls}
 use Rattle.ranges.proofs.bytes_range.MadeRange.between.Statement.{statement}
@@ -13,7 +13,7 @@ use Rattle.ranges.proofs.bytes_range.MadeRange.between.Reads as reads
 use Rattle.ranges.proofs.bytes_range.MadeRange.between.Lts as lts
 use Rattle.ranges.proofs.bytes_range.BytesRange.new.Reads as new-reads
 use Rattle.ranges.proofs.bytes_range.MadeRange.refused.Reads as refused-reads
-use Rattle.made.proofs.Making.is_done.Reads as is-done-reads
+use Rattle.ranges.proofs.made.Making.is_done.Reads as is-done-reads
 
 -- src/bytes_range.rt:90:13
 is-done-requires : tie.Need-is-done-requires

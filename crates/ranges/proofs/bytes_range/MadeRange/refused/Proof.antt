@@ -3,7 +3,7 @@ use Rattle.ranges.proofs.bytes_range.MadeRange.refused.Statement.{state
 use Rattle.ranges.proofs.bytes_range.MadeRange.refused.Tie as tie
 use Rattle.ranges.proofs.bytes_range.MadeRange.refused.Reads as reads
 use Rattle.ranges.proofs.bytes_range.MadeRange.refused.Lts as lts
-use Rattle.made.proofs.Made.nothing.Reads as nothing-reads
+use Rattle.ranges.proofs.made.Made.nothing.Reads as nothing-reads
 
 -- src/bytes_range.rt:66:13
 nothing-requires : tie.Need-nothing-requires

@@ -1,0 +1,67 @@
+use Rattle.commits.proofs.BatchLaws.{batch-no-list, batch-over-long, batch-nobody, batch-many, entering}
+use mathlib.Core.Path.{sym, _∙_}
+use native.Mathlib.Omega.{arith}
+use borrow.Author.Needs.{needs}
+use Rattle.commits.proofs.batch.batch_entry.Statement.{statement}
+use Rattle.commits.proofs.batch.batch_entry.Tie as tie
+
+check-keys-requires : tie.Need-check-keys-requires
+check-keys-requires c κs = search needs
+
+enum-told : tie.Need-enum-told
+enum-told c = search needs
+
+returns : tie.Need-returns
+returns c = batch-no-list (c .before .before .before .before .before .pre) (sym (c .enum-told .given .1) ∙ c .before .before .check-keys .ensures)
+
+enum-told-2 : tie.Need-enum-told-2
+enum-told-2 c = search needs
+
+returns-2 : tie.Need-returns-2
+returns-2 c = batch-over-long (c .before .before .before .before .before .pre) (sym (c .enum-told2 .given .1) ∙ c .before .before .check-keys .ensures)
+
+enum-told-3 : tie.Need-enum-told-3
+enum-told-3 c = search needs
+
+larger-requires : tie.Need-larger-requires
+larger-requires c κs = search needs
+
+write-fresh-requires : tie.Need-write-fresh-requires
+write-fresh-requires c κs = search needs
+
+same-length : tie.Need-same-length
+same-length c = search needs
+
+returns-3 : tie.Need-returns-3
+returns-3 c = batch-nobody (c .before .before .before .before .before .before .before .before .before .before .before .before .pre) (sym (c .before .before .before .before .before .before .before .enum-told3 .given .1) ∙ c .before .before .before .before .before .before .before .before .before .check-keys .ensures) (c .before .before .before .before .before .if1 .taken) (c .before .before .before .before .larger .ensures) (c .before .before .write-fresh .ensures) (omega (arith, c .before .before .before .before .before .before .before .before .before .before .before .before .fits .seq))
+
+returns-4 : tie.Need-returns-4
+returns-4 c = batch-many (c .before .before .before .before .before .before .before .before .before .pre) (sym (c .before .before .before .before .enum-told3 .given .1) ∙ c .before .before .before .before .before .before .check-keys .ensures) (omega (arith, c .before .before .if1 .left)) (omega (arith, c .if2 .taken))
+
+enter-keys-requires : tie.Need-enter-keys-requires
+enter-keys-requires c κs = (c .before .before .before .before .before .before .before .before .before .before .pre, entering (sym (c .before .before .before .before .before .enum-told3 .given .1) ∙ c .before .before .before .before .before .before .before .check-keys .ensures) (c .before .before .before .if1 .left) (omega (arith, c .before .if2 .left)))
+
+same-length-2 : tie.Need-same-length-2
+same-length-2 c = search needs
+
+returns-5 : tie.Need-returns-5
+returns-5 c = search needs
+
+pub batch-entry-spec : {M : Type 1} → statement M
+batch-entry-spec =
+    tie.close
+    (tie.spec
+    check-keys-requires
+    enum-told
+    returns
+    enum-told-2
+    returns-2
+    enum-told-3
+    larger-requires
+    write-fresh-requires
+    same-length
+    returns-3
+    returns-4
+    enter-keys-requires
+    same-length-2
+    returns-5)

@@ -1,0 +1,87 @@
+use Rattle.answers.proofs.SeenLaws.{active-rows}
+use Rattle.commits.proofs.DropLaws.{drop-refused, drop-unknown, drop-prunable, drop-known}
+use Rattle.answers.proofs.LeftLaws.{Bounds, here-bounds}
+use Rattle.commits.proofs.PrunableLaws.{seen-prunable}
+use Rattle.places.specs.Finds.{Found}
+use Rattle.places.specs.declared.finds.Place.{Place}
+use native.Mathlib.Omega.{arith}
+use denote.Ref.{now}
+use borrow.Author.Needs.{needs}
+use Rattle.commits.proofs.drop.drop_active.Statement.{statement}
+use Rattle.commits.proofs.drop.drop_active.Tie as tie
+
+-- the transaction that was found
+found : (c : tie.After-at) → Found (now (c .before .before .before .before .before .before .before .args .room)) (c .before .before .before .before .before .before .before .args .v .middle) (c .before .before .before .before .before .before .before .args .v .active) (now (c .before .before .before .before .before .before .before .args .id)) (Place.Here (c .at .given .0 .0) (c .at .given .0 .1 .0))
+found c = rw (c .at .given .1) at (c .before .before .find-txn .ensures)
+
+bounds : (c : tie.After-at) → Bounds (c .before .before .before .before .before .before .before .pre) (found c)
+bounds c = here-bounds (c .before .before .before .before .before .before .before .pre) (found c)
+
+returns : tie.Need-returns
+returns c = drop-refused (c .before .before .before .pre) (c .if1 .taken)
+
+find-txn-requires : tie.Need-find-txn-requires
+find-txn-requires c κs = active-rows (c .before .before .before .before .pre)
+
+enum-known-at : tie.Need-enum-known-at
+enum-known-at c = search needs
+
+sub-gone : tie.Need-sub-gone
+sub-gone c = bounds (c .before) .from
+
+remove-requires : tie.Need-remove-requires
+remove-requires c κs = let b = bounds (c .before .before) in (omega (arith, b .from, b .within), b .inside)
+
+sub-write-two : tie.Need-sub-write-two
+sub-write-two c = bounds (c .before .before .before .before .before .before) .some
+
+write-two-requires : tie.Need-write-two-requires
+write-two-requires c κs = search needs
+
+sub-recycle-recent-committed-txns : tie.Need-sub-recycle-recent-committed-txns
+sub-recycle-recent-committed-txns c = omega (arith, bounds (c .before .before .before .before .before .before .before .before .before .before) .some)
+
+sub-recycle-recent-committed-txns-2 : tie.Need-sub-recycle-recent-committed-txns-2
+sub-recycle-recent-committed-txns-2 c = omega (arith, bounds (c .before .before .before .before .before .before .before .before .before .before) .within)
+
+recycle-recent-committed-txns-requires : tie.Need-recycle-recent-committed-txns-requires
+recycle-recent-committed-txns-requires c κs = drop-prunable (c .before .before .before .before .before .before .before .before .before .before .before .before .before .before .before .before .before .pre) (c .before .before .before .before .before .before .before .before .before .before .before .before .before .before .if1 .left) (found (c .before .before .before .before .before .before .before .before .before .before)) (c .before .before .before .before .before .before .before .remove .ensures) (c .before .before .before .write-two .ensures)
+
+enum-told : tie.Need-enum-told
+enum-told c = search needs
+
+recycle-recent-committed-txns-requires-2 : tie.Need-recycle-recent-committed-txns-requires-2
+recycle-recent-committed-txns-requires-2 c κs = seen-prunable (c .before .before .before .before .before .before .before .before .pre)
+
+same-length : tie.Need-same-length
+same-length c = search needs
+
+returns-2 : tie.Need-returns-2
+returns-2 c = drop-known (c .before .before .before .before .before .before .before .before .before .before .before .before .before .before .before .before .before .before .before .before .pre) (c .before .before .before .before .before .before .before .before .before .before .before .before .before .before .before .before .before .if1 .left) (found (c .before .before .before .before .before .before .before .before .before .before .before .before .before)) (c .before .before .before .before .before .before .before .before .before .before .remove .ensures) (c .before .before .before .before .before .before .write-two .ensures) (c .before .before .recycle-recent-committed-txns .ensures)
+
+same-length-2 : tie.Need-same-length-2
+same-length-2 c = search needs
+
+returns-3 : tie.Need-returns-3
+returns-3 c = drop-unknown (c .before .before .before .before .before .before .before .before .before .before .before .pre) (c .before .before .before .before .before .before .before .before .if1 .left) (rw (c .before .before .before .before .enum-told .given .1) at (c .before .before .before .before .before .before .find-txn .ensures)) (c .before .before .recycle-recent-committed-txns2 .ensures)
+
+pub drop-active-spec : {M : Type 1} → statement M
+drop-active-spec =
+    tie.close
+    (tie.spec
+    returns
+    find-txn-requires
+    enum-known-at
+    sub-gone
+    remove-requires
+    sub-write-two
+    write-two-requires
+    sub-recycle-recent-committed-txns
+    sub-recycle-recent-committed-txns-2
+    recycle-recent-committed-txns-requires
+    enum-told
+    recycle-recent-committed-txns-requires-2
+    same-length
+    returns-2
+    same-length-2
+    returns-3)

@@ -1,4 +1,0 @@
-pub mod RecycleLaws
-pub mod StandLaws
-pub mod PrunableLaws
-pub mod DropLaws

@@ -1,2 +1,0 @@
-pub mod AnswerLaws
-pub mod OneAnswer

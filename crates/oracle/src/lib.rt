@@ -1,2 +1,0 @@
-// The last committed number of a room.
-pub mod oracle;

@@ -1,4 +1,0 @@
-pub mod BoundsLaws
-pub mod AppendLaws
-pub mod JudgeLaws
-pub mod RangeLaws

@@ -1,2 +1,0 @@
-pub mod RangeLaws
-pub mod EntryLaws

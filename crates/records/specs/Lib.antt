@@ -1,2 +1,0 @@
-pub mod Stream
-pub mod Records

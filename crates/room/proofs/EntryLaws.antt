@@ -1,0 +1,116 @@
+-- Entries and transactions.
+use Prim.Native.Nat.{ℕ, _+_, _-_, _≤_, _<_}
+use mathlib.Core.Path.{_≡_, refl, sym, ap, ap₂, _∙_}
+use mathlib.Core.Bool.{true}
+use mathlib.Core.List.{List, _++_, append-assoc}
+use native.Mathlib.Omega.{arith}
+use borrow.Author.Tests.{le-leb}
+use lib.Dec.{leb}
+use lib.ListN.{length, take, drop, length-append, length-drop}
+use lib.Seq.{drop-drop, take-append-seam}
+use Rattle.keys.specs.Limit.{keyLimit}
+use Rattle.machine.specs.State.{Bytes, Txn}
+use Rattle.codec.specs.Codec.{item}
+use Rattle.codec.specs.Formats.{number, raw, bind, via}
+use Rattle.codec.specs.Places.{Stands}
+use Rattle.codec.proofs.NumberLaws.{length-number}
+use Rattle.codec.proofs.RecordLaws.{too-short, stands-length}
+use Rattle.layout.specs.Keys.{setForm, rangesForm}
+use Rattle.layout.specs.Records.{entryForm, txnForm}
+use Rattle.room.specs.declared.tally.Tally.{Tally}
+use Rattle.room.specs.Counts.{aSet, someRanges, anEntry, aTxn, plus}
+use Rattle.room.specs.Walks.{Got, Missing}
+use Rattle.room.proofs.GoingLaws.{Labelled}
+use Rattle.room.proofs.SetLaws.{number-short}
+
+-- ---- entries
+
+module _ (s : List ℕ) (at : ℕ) where
+  pub entry-short : length s - at < 8 → Missing (entryForm keyLimit) s at
+  unfolding entryForm via bind
+  entry-short h = record { reads = rw (number-short 8 s at h) }
+
+  module _ (n : ℕ) (r : Stands (number 8) s at n (at + 8)) where
+    pub entry-cut : Missing (setForm keyLimit) s (at + 8) → Missing (entryForm keyLimit) s at
+    unfolding entryForm via bind
+    entry-cut m = record { reads = rw (r .reads, m .reads) }
+
+    pub entry-got : {t : Tally} → Got aSet s (at + 8) t → Got anEntry s at (record { end = t .end; marks = t .marks; bytes = t .bytes; high = n })
+    unfolding entryForm via bind
+    entry-got {t} g = record {
+      val = record { seq = n; keys = g .val };
+      part = record { stands = record { reads = rw (r .reads, g .part .stands .reads) }; from = omega (arith, g .part .from); inside = g .part .inside };
+      marks = g .marks;
+      bytes = g .bytes;
+      high = refl;
+      fits = omega (arith, g .fits);
+    }
+
+-- ---- transactions
+
+least-txn : (t : Txn) → txnForm keyLimit .Ok t → 24 ≤ length (txnForm keyLimit .write t)
+unfolding txnForm via bind raw
+least-txn t o = simp length-append (omega (arith, o .0, length-number 8 (t .start)))
+
+-- a transaction's label is its id, which stands first
+abbrev pub idOf : Txn → Bytes
+idOf t = t .id
+
+abbrev pub idAt : List ℕ → ℕ → ℕ → Bytes
+idAt s p e = take 16 (drop p s)
+
+pub txn-labelled : Labelled aTxn idOf idAt 16
+unfolding txnForm via bind raw
+txn-labelled s at e t w =
+    let x = txnForm keyLimit .read-is (drop at s) t (drop e s) (w .stands .reads) in
+    let l : e ≡ at + length (txnForm keyLimit .write t) = stands-length (txnForm keyLimit) (w .stands) (omega (arith, w .from, w .inside)) (w .inside) in
+    let y : List ℕ = number 8 .write (t .start) ++ (setForm keyLimit .write (t .writes) ++ (setForm keyLimit .write (t .reads) ++ rangesForm keyLimit .write (t .ranges))) in
+    let is : drop at s ≡ t .id ++ (y ++ drop e s) = x .0 ∙ append-assoc (t .id) y (drop e s) in
+    (omega (arith, l, least-txn t (x .1)), rw is (sym (take-append-seam (t .id) (y ++ drop e s)) ∙ ap (λ (j : ℕ). take j (t .id ++ (y ++ drop e s))) (x .1 .0)))
+
+module _ (s : List ℕ) (at : ℕ) where
+  pub txn-short : length s - at < 24 → Missing (txnForm keyLimit) s at
+  txn-short h = record { reads = too-short (txnForm keyLimit) 24 least-txn (drop at s) (rw (length-drop at s) h) }
+
+  module _ (n : ℕ) (h : at + 24 ≤ length s) (r : Stands (number 8) s (at + 16) n (at + 16 + 8)) where
+    sixteen : leb 16 (length (drop at s)) ≡ true
+    sixteen = le-leb 16 (length (drop at s)) (rw (length-drop at s) (omega arith))
+
+    start-is : number 8 .read (drop (at + 16) s) ≡ item n (drop (at + 24) s)
+    start-is = let j : at + 16 + 8 ≡ at + 24 = omega arith in r .reads ∙ ap (λ (x : ℕ). item n (drop x s)) j
+
+    pub no-writes : Missing (setForm keyLimit) s (at + 24) → Missing (txnForm keyLimit) s at
+    unfolding txnForm via bind raw
+    no-writes m = record { reads = rw (sixteen, drop-drop 16 at s, start-is, m .reads) }
+
+    module _ {w : Tally} (a : Got aSet s (at + 24) w) where
+      pub no-reads : Missing (setForm keyLimit) s (w .end) → Missing (txnForm keyLimit) s at
+      unfolding txnForm via bind raw
+      no-reads m = record { reads = rw (sixteen, drop-drop 16 at s, start-is, a .part .stands .reads, m .reads) }
+
+      module _ {u : Tally} (b : Got aSet s (w .end) u) where
+        pub no-ranges : Missing (rangesForm keyLimit) s (u .end) → Missing (txnForm keyLimit) s at
+        unfolding txnForm via bind raw
+        no-ranges m = record { reads = rw (sixteen, drop-drop 16 at s, start-is, a .part .stands .reads, b .part .stands .reads, m .reads) }
+
+        module _ {x : Tally} (c : Got someRanges s (u .end) x) (sets : Tally) (es : sets ≡ plus w u) where
+          pub join-ranges : (sets .marks + sets .bytes ≤ sets .end) × (sets .end + x .marks + x .bytes ≤ x .end)
+          join-ranges = rw es (omega (arith, a .fits, b .fits), omega (arith, c .fits))
+
+          whole : Got aTxn s at (record { end = x .end; marks = w .marks + u .marks + x .marks; bytes = w .bytes + u .bytes + x .bytes; high = n })
+          unfolding txnForm via bind raw
+          whole = record {
+            val = record { id = take 16 (drop at s); start = n; writes = a .val; reads = b .val; ranges = c .val };
+            part = record {
+              stands = record { reads = rw (sixteen, drop-drop 16 at s, start-is, a .part .stands .reads, b .part .stands .reads, c .part .stands .reads) };
+              from = omega (arith, a .part .from, b .part .from, c .part .from);
+              inside = c .part .inside;
+            };
+            marks = ap₂ (λ (i j : ℕ). i + j) (ap₂ (λ (i j : ℕ). i + j) (a .marks) (b .marks)) (c .marks);
+            bytes = ap₂ (λ (i j : ℕ). i + j) (ap₂ (λ (i j : ℕ). i + j) (a .bytes) (b .bytes)) (c .bytes);
+            high = refl;
+            fits = omega (arith, a .fits, b .fits, c .fits);
+          }
+
+          pub txn-got : (t : Tally) → t ≡ plus sets x → Got aTxn s at (record { end = t .end; marks = t .marks; bytes = t .bytes; high = n })
+          txn-got t et = rw (et, es) whole

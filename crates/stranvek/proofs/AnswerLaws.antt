@@ -1,0 +1,38 @@
+-- Answers as the structs that the host reads.
+use Prim.Native.Nat.{ℕ}
+use mathlib.Core.Path.{_≡_, refl, ap, _∙_}
+use mathlib.Core.Bool.{true, false}
+use mathlib.Core.Ordering.{Ordering}
+use lib.IntN.{ℤ}
+use mir.Syntax.{w8}
+use mir.Val.{toZ, ofZ}
+use Rattle.keys.specs.Order.{sign}
+use Rattle.kinds.proofs.Ties.{kept-sign}
+use Rattle.stranvek.specs.declared.boundary.Compared.{Compared}
+use Rattle.kinds.specs.declared.kind.Kind.{Kind}
+use Rattle.ranges.specs.declared.made.Making.{Making}
+use Rattle.ranges.specs.declared.made.Making.the-variants.{Done, TooLong, Empty}
+use Rattle.ranges.specs.Made.{isDone, status}
+use Rattle.stranvek.specs.declared.boundary.NewRange.{NewRange}
+use Rattle.stranvek.specs.Boundary.{kindNumber}
+use Rattle.stranvek.specs.Answers.{compared, newRange}
+
+abbrev answer : ℤ → Compared
+answer z = record { status = 0; order = z }
+
+pub compare-answer : (o : Ordering) {r : ℤ} → r ≡ sign o → answer (toZ w8 (ofZ w8 r)) ≡ compared o
+compare-answer o e = ap (λ z. answer (toZ w8 (ofZ w8 z))) e ∙ ap answer (kept-sign o)
+
+-- a new range's answer by whether it was made
+abbrev pub bounded : ℕ → ℕ → ℕ → NewRange
+bounded n s e = record { status = n; «start_kind» = s; «end_kind» = e }
+
+pub new-done : (m : Making) (a b : Kind) → isDone m ≡ true → bounded 0 (kindNumber a) (kindNumber b) ≡ newRange m a b
+new-done Done a b e = refl
+new-done TooLong a b e = cc
+new-done Empty a b e = cc
+
+pub new-refused : (m : Making) (a b : Kind) → isDone m ≡ false → bounded (status m) 16 16 ≡ newRange m a b
+new-refused Done a b e = cc
+new-refused TooLong a b e = refl
+new-refused Empty a b e = refl

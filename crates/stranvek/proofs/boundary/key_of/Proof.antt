@@ -1,0 +1,17 @@
+use borrow.Author.Needs.{needs}
+use Rattle.stranvek.proofs.boundary.key_of.Statement.{statement}
+use Rattle.stranvek.proofs.boundary.key_of.Tie as tie
+use Rattle.stranvek.proofs.boundary.key_of.Reads as reads
+use Rattle.stranvek.proofs.boundary.key_of.Lts as lts
+use Rattle.stranvek.proofs.boundary.number_of.Reads as number-of-reads
+
+number-of-requires : tie.Need-number-of-requires
+number-of-requires c κs = search needs
+
+returns : tie.Need-returns
+returns c =
+    let m = c .before .before .args .made in
+    λ i. record { kind = c .number-of .ensures i; len = m .len; bytes = m .bytes }
+
+pub key-of-spec : {M : Type 1} → statement M
+key-of-spec = tie.close (tie.spec number-of-requires returns)

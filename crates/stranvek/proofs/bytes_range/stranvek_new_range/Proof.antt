@@ -1,0 +1,72 @@
+use borrow.Author.Needs.{needs}
+use mathlib.Core.Path.{sym, ap, _∙_}
+use denote.Ref.{now}
+use Rattle.kinds.specs.Bounds.{bound}
+use Rattle.bounds.specs.Ranges.{range}
+use Rattle.ranges.specs.Made.{isDone, status}
+use Rattle.ranges.specs.Making.{newOf}
+use Rattle.stranvek.specs.Boundary.{kindAt, kindNumber, rangeAt}
+use Rattle.stranvek.proofs.AnswerLaws.{bounded, new-done, new-refused}
+use Rattle.stranvek.proofs.bytes_range.stranvek_new_range.Statement.{statement}
+use Rattle.stranvek.proofs.bytes_range.stranvek_new_range.Tie as tie
+use Rattle.stranvek.proofs.bytes_range.stranvek_new_range.Reads as reads
+use Rattle.stranvek.proofs.bytes_range.stranvek_new_range.Lts as lts
+use Rattle.stranvek.proofs.boundary.kind_at.Reads as kind-at-reads
+use Rattle.stranvek.proofs.boundary.number_of.Reads as number-of-reads
+use Rattle.stranvek.proofs.boundary.status_of.Reads as status-of-reads
+use Rattle.ranges.proofs.bytes_range.BytesRange.new.Reads as new-reads
+use Rattle.ranges.proofs.made.Making.is_done.Reads as is-done-reads
+
+kind-at-requires : tie.Need-kind-at-requires
+kind-at-requires c κs = search needs
+
+kind-at-requires-2 : tie.Need-kind-at-requires-2
+kind-at-requires-2 c κs = search needs
+
+new-requires : tie.Need-new-requires
+new-requires c κs = search needs
+
+is-done-requires : tie.Need-is-done-requires
+is-done-requires c κs = search needs
+
+number-of-requires : tie.Need-number-of-requires
+number-of-requires c κs = search needs
+
+number-of-requires-2 : tie.Need-number-of-requires-2
+number-of-requires-2 c κs = search needs
+
+returns : tie.Need-returns
+returns c =
+    let x = c .before .before .before .before .before .before .before .before .before .args in
+    let s = c .before .before .before .before .before .before .kind-at .ensures in
+    let e = c .before .before .before .before .before .kind-at2 .ensures in
+    let m = c .before .before .before .before .new .ensures ∙ (λ i. newOf (range (bound (s i) (now (x .start-key))) (bound (e i) (now (x .end-key))))) in
+    let d = sym (ap isDone m) ∙ sym (c .before .before .before .is-done .ensures) ∙ c .before .before .if1 .taken in
+    (λ i. bounded 0 ((c .before .number-of .ensures ∙ ap kindNumber s) i) ((c .number-of2 .ensures ∙ ap kindNumber e) i))
+    ∙ new-done (newOf (rangeAt (x .start-kind) (now (x .start-key)) (x .end-kind) (now (x .end-key)))) (kindAt (x .start-kind)) (kindAt (x .end-kind)) d
+
+status-of-requires : tie.Need-status-of-requires
+status-of-requires c κs = search needs
+
+returns-2 : tie.Need-returns-2
+returns-2 c =
+    let x = c .before .before .before .before .before .before .before .before .args in
+    let s = c .before .before .before .before .before .kind-at .ensures in
+    let e = c .before .before .before .before .kind-at2 .ensures in
+    let m = c .before .before .before .new .ensures ∙ (λ i. newOf (range (bound (s i) (now (x .start-key))) (bound (e i) (now (x .end-key))))) in
+    let d = sym (ap isDone m) ∙ sym (c .before .before .is-done .ensures) ∙ c .before .if1 .left in
+    ap (λ n. bounded n 16 16) (c .status-of .ensures ∙ ap status m) ∙ new-refused (newOf (rangeAt (x .start-kind) (now (x .start-key)) (x .end-kind) (now (x .end-key)))) (kindAt (x .start-kind)) (kindAt (x .end-kind)) d
+
+pub stranvek-new-range-spec : {M : Type 1} → statement M
+stranvek-new-range-spec =
+    tie.close
+    (tie.spec
+    kind-at-requires
+    kind-at-requires-2
+    new-requires
+    is-done-requires
+    number-of-requires
+    number-of-requires-2
+    returns
+    status-of-requires
+    returns-2)

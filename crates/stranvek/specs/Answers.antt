@@ -1,0 +1,34 @@
+-- The answers of the calls as the structs that the host reads.
+use mathlib.Core.Bool.{Bool}
+use mathlib.Core.Ordering.{Ordering}
+use Rattle.keys.specs.Order.{sign}
+use Rattle.kinds.specs.declared.kind.Kind.{Kind}
+use Rattle.kinds.specs.declared.kind.Kind.the-variants.{Unbounded}
+use Rattle.ranges.specs.declared.made.Making.{Making}
+use Rattle.ranges.specs.declared.made.Making.the-variants.{Done, TooLong, Empty}
+use Rattle.ranges.specs.declared.made.Made.{Made}
+use Rattle.ranges.specs.Made.{status}
+use Rattle.stranvek.specs.declared.boundary.Compared.{Compared}
+use Rattle.stranvek.specs.declared.boundary.Told.{Told}
+use Rattle.stranvek.specs.declared.boundary.NewRange.{NewRange}
+use Rattle.stranvek.specs.declared.boundary.MadeKey.{MadeKey}
+use Rattle.stranvek.specs.Boundary.{kindNumber, key}
+
+-- "always have status 0"
+abbrev pub compared : Ordering → Compared
+compared o = record { status = 0; order = sign o }
+
+abbrev pub told : Bool → Told
+told b = record { status = 0; holds = b }
+
+-- "length 0 and unbounded when refused"
+abbrev pub refusedRange : Making → NewRange
+refusedRange m = record { status = status m; «start_kind» = kindNumber Unbounded; «end_kind» = kindNumber Unbounded }
+
+abbrev pub newRange : Making → Kind → Kind → NewRange
+newRange Done a b = record { status = status Done; «start_kind» = kindNumber a; «end_kind» = kindNumber b }
+newRange TooLong a b = refusedRange TooLong
+newRange Empty a b = refusedRange Empty
+
+abbrev pub madeKey : Made → MadeKey
+madeKey m = record { status = status (m .making); key = key (m .bound) }

@@ -1,0 +1,174 @@
+use Prim.Native.Nat.{_+_, _-_, _≤_}
+use mathlib.Core.Logic.{⊎-map}
+use native.Mathlib.Omega.{arith}
+use borrow.Author.Needs.{needs}
+use borrow.Author.Tests.{ltb-true, ltb-false}
+use denote.Ref.{now}
+use lib.ListN.{length}
+use Rattle.fields.specs.declared.NextKey.{NextKey}
+use Rattle.fields.specs.Forms.{NextIs}
+use Rattle.tracks.specs.declared.sets.Found.{Found}
+use Rattle.tracks.specs.Sets.{FoundIs}
+use Rattle.tracks.proofs.KeyLaws.{part}
+use Rattle.tracks.proofs.InsertLaws.{Adding, add-start, rows-now, end-inside, all-added, never-bad, add-there, full, fits, can-splice, add-put}
+use Rattle.tracks.proofs.sets.insert_all.Statement.{statement}
+use Rattle.tracks.proofs.sets.insert_all.Tie as tie
+use Rattle.tracks.proofs.sets.insert_all.Reads as reads
+use Rattle.tracks.proofs.sets.insert_all.Lts as lts
+use Rattle.fields.proofs.next_key.Reads as next-key-reads
+use Rattle.moves.proofs.splice.Reads as splice-reads
+use Rattle.tracks.proofs.sets.find_place.Reads as find-place-reads
+
+abbrev Inv-loop : tie.InvT-loop
+Inv-loop draft₀ used count list marks bytes used₀ count₀ marks₀ bytes₀ at₀ draft used' count' marks' bytes' at =
+    Adding draft₀ used count list marks bytes draft used' count' marks' bytes' at
+
+abbrev μ-loop : tie.MeasureT-loop
+μ-loop draft₀ used count list marks bytes used₀ count₀ marks₀ bytes₀ at₀ draft used' count' marks' bytes' at =
+    length list - at
+
+-- the key that was read in this turn, and where it belongs
+seen : (c : tie.After-from Inv-loop μ-loop) → NextIs (now (c .before .before .before .before .before .before .args .list)) (c .before .before .before .loop .at) (NextKey.Key (c .from .given .0 .0) (c .from .given .0 .1 .0))
+seen c = rw (c .from .given .1) at (c .before .before .next-key .ensures)
+
+found : (c : tie.After-place Inv-loop μ-loop) → FoundIs (c .before .before .before .before .before .before .before .before .before .loop .draft) (c .before .before .before .before .before .before .before .before .before .loop .count) (part (now (c .before .before .before .before .before .before .before .before .before .before .before .before .args .list)) (c .before .before .before .before .before .before .from .given .0 .0) (c .before .before .before .before .before .before .from .given .0 .1 .0)) (Found.Before (c .place .given .0 .0))
+found c = rw (c .place .given .1) at (c .before .before .find-place .ensures)
+
+loop-holds : tie.Need-loop-holds Inv-loop μ-loop
+loop-holds c = add-start (c .before .before .pre)
+
+next-key-requires : tie.Need-next-key-requires Inv-loop μ-loop
+next-key-requires c κs = search needs
+
+enum-known-from : tie.Need-enum-known-from Inv-loop μ-loop
+enum-known-from c = search needs
+
+sub-find-place : tie.Need-sub-find-place Inv-loop μ-loop
+sub-find-place c = omega (arith, seen (c .before .before))
+
+part-find-place-start : tie.Need-part-find-place-start Inv-loop μ-loop
+part-find-place-start c = omega (arith, seen (c .before .before))
+
+part-find-place-end : tie.Need-part-find-place-end Inv-loop μ-loop
+part-find-place-end c = omega (arith, seen (c .before .before))
+
+find-place-requires : tie.Need-find-place-requires Inv-loop μ-loop
+find-place-requires c κs = rows-now (c .before .before .before .before .before .before .loop .inv)
+
+enum-told : tie.Need-enum-told Inv-loop μ-loop
+enum-told c = search needs
+
+loop-less : tie.Need-loop-less Inv-loop μ-loop
+loop-less c = omega (arith, seen (c .before .before .before .before .before .before))
+
+loop-again : tie.Need-loop-again Inv-loop μ-loop
+loop-again c = add-there (c .before .before .before .before .before .before .before .before .before .loop .inv) (seen (c .before .before .before .before .before .before)) (rw (c .enum-told .given .1) at (c .before .before .find-place .ensures))
+
+enum-known-place : tie.Need-enum-known-place Inv-loop μ-loop
+enum-known-place c = search needs
+
+sub-size : tie.Need-sub-size Inv-loop μ-loop
+sub-size c = omega (arith, seen (c .before .before .before .before .before .before .before))
+
+same-length : tie.Need-same-length Inv-loop μ-loop
+same-length c = search needs
+
+returns : tie.Need-returns Inv-loop μ-loop
+returns c = full (c .before .before .before .before .before .before .before .before .before .before .before .loop .inv) (seen (c .before .before .before .before .before .before .before .before)) (found (c .before .before)) (⊎-map (λ z. z .taken) (λ z. ltb-true _ _ (z .1 .taken)) (c .if1 .came))
+
+-- both limits leave room for the key
+room : (c : tie.Else2 Inv-loop μ-loop) → (c .before .before .before .before .before .before .before .before .before .from .given .0 .1 .0 - c .before .before .before .before .before .before .before .before .before .from .given .0 .0 ≤ c .before .before .before .before .before .before .before .before .before .before .before .before .loop .bytes) × (c .before .before .before .before .before .before .before .before .before .before .before .before .loop .used + (2 + (c .before .before .before .before .before .before .before .before .before .from .given .0 .1 .0 - c .before .before .before .before .before .before .before .before .before .from .given .0 .0)) ≤ length (c .before .before .before .before .before .before .before .before .before .before .before .before .loop .draft))
+room c = let b = ltb-false _ _ (c .if2 .left) in (b, fits (c .before .before .before .before .before .before .before .before .before .before .before .before .loop .inv) (seen (c .before .before .before .before .before .before .before .before .before)) (found (c .before .before .before)) (c .before .if1 .left) b)
+
+sub-head : tie.Need-sub-head Inv-loop μ-loop
+sub-head c = omega (arith, seen (c .before .before .before .before .before .before .before .before .before))
+
+sub-splice : tie.Need-sub-splice Inv-loop μ-loop
+sub-splice c = omega (arith, seen (c .before .before .before .before .before .before .before .before .before .before))
+
+part-splice-start : tie.Need-part-splice-start Inv-loop μ-loop
+part-splice-start c = omega (arith, seen (c .before .before .before .before .before .before .before .before .before .before))
+
+part-splice-end : tie.Need-part-splice-end Inv-loop μ-loop
+part-splice-end c = omega (arith, seen (c .before .before .before .before .before .before .before .before .before .before))
+
+splice-requires : tie.Need-splice-requires Inv-loop μ-loop
+splice-requires c κs = can-splice (c .before .before .before .before .before .before .before .before .before .before .before .before .before .before .loop .inv) (seen (c .before .before .before .before .before .before .before .before .before .before .before)) (found (c .before .before .before .before .before)) (c .before .before .before .if1 .left) (room (c .before .before) .0)
+
+add-used : tie.Need-add-used Inv-loop μ-loop
+add-used c = omega (arith, room (c .before .before .before .before .before))
+
+add-used-2 : tie.Need-add-used-2 Inv-loop μ-loop
+add-used-2 c = omega (arith, room (c .before .before .before .before .before))
+
+add-count : tie.Need-add-count Inv-loop μ-loop
+add-count c = omega (arith, end-inside (c .before .before .before .before .before .before .before .before .before .before .before .before .before .before .before .before .before .loop .inv))
+
+sub-marks : tie.Need-sub-marks Inv-loop μ-loop
+sub-marks c = search needs
+
+sub-bytes : tie.Need-sub-bytes Inv-loop μ-loop
+sub-bytes c = omega (arith, room (c .before .before .before .before .before))
+
+loop-less-2 : tie.Need-loop-less-2 Inv-loop μ-loop
+loop-less-2 c = omega (arith, seen (c .before .before .before .before .before .before .before .before .before .before .before .before .before .before))
+
+loop-again-2 : tie.Need-loop-again-2 Inv-loop μ-loop
+loop-again-2 c = add-put (c .before .before .before .before .before .before .before .before .before .before .before .before .before .before .before .before .before .loop .inv) (seen (c .before .before .before .before .before .before .before .before .before .before .before .before .before .before)) (found (c .before .before .before .before .before .before .before .before)) (c .before .before .before .before .before .before .if1 .left) (room (c .before .before .before .before .before) .0) (λ i. omega (arith, c .before .before .before .before .before .before .before .before .before .before .before .before .before .before .before .before .before .before .shared-slice-known .given i)) (c .before .before .splice .ensures)
+
+enum-told-2 : tie.Need-enum-told-2 Inv-loop μ-loop
+enum-told-2 c = search needs
+
+same-length-2 : tie.Need-same-length-2 Inv-loop μ-loop
+same-length-2 c = search needs
+
+returns-2 : tie.Need-returns-2 Inv-loop μ-loop
+returns-2 c = all-added (c .before .before .before .loop .inv) (rw (c .enum-told2 .given .1) at (c .before .before .next-key .ensures))
+
+enum-told-3 : tie.Need-enum-told-3 Inv-loop μ-loop
+enum-told-3 c = search needs
+
+same-length-3 : tie.Need-same-length-3 Inv-loop μ-loop
+same-length-3 c = search needs
+
+returns-3 : tie.Need-returns-3 Inv-loop μ-loop
+returns-3 c = absurd (never-bad (c .before .before .before .loop .inv) (rw (c .enum-told3 .given .1) at (c .before .before .next-key .ensures)))
+
+pub insert-all-spec : {M : Type 1} → statement M
+insert-all-spec =
+    tie.close
+    (tie.spec
+    Inv-loop
+    μ-loop
+    loop-holds
+    next-key-requires
+    enum-known-from
+    sub-find-place
+    part-find-place-start
+    part-find-place-end
+    find-place-requires
+    enum-told
+    loop-less
+    loop-again
+    enum-known-place
+    sub-size
+    same-length
+    returns
+    sub-head
+    sub-splice
+    part-splice-start
+    part-splice-end
+    splice-requires
+    add-used
+    add-used-2
+    add-count
+    sub-marks
+    sub-bytes
+    loop-less-2
+    loop-again-2
+    enum-told-2
+    same-length-2
+    returns-2
+    enum-told-3
+    same-length-3
+    returns-3)

@@ -1,0 +1,85 @@
+// Sets of keys in a draft: the record of each key after the other, ascending.
+ghost use Rattle.layout.specs.Places.{Rows};
+ghost use Rattle.tracks.specs.Sets.{Key, FoundIs, Ready, InsertedIs};
+use fields::NextKey;
+use fields::next_key;
+use moves::splice;
+use places::skips::key_past;
+
+// A key's length takes this many bytes.
+const HEAD: usize = 2;
+
+// Where a key belongs in a set: it is there, or it is to stand before what stands at a place.
+enum Found {
+    There,
+    Before(usize),
+}
+
+fn find_place(draft: &[u8], count: usize, key: &[u8]) -> Found
+    requires { ⌜ Rows Key (now draft) 0 count ⌝ }
+    ensures { λ r. ⌜ FoundIs (now (draft .entry)) count (now (key .entry)) r ⌝ }
+{
+    let mut place = 0;
+    let mut left = count;
+    while 0 < left {
+        let from = place + HEAD;
+        let next = key_past(draft, place);
+        let side = keys::compare(key, &draft[from..next]);
+        if side < 0 {
+            return Found::Before(place);
+        }
+        if side == 0 {
+            return Found::There;
+        }
+        place = next;
+        left -= 1;
+    }
+    Found::Before(place)
+}
+
+pub enum Inserted {
+    All { used: usize, count: usize },
+    Full,
+}
+
+// Puts the keys of a list into the set of `count` keys in the first `used` bytes of a draft; not more than `marks` new ones, nor
+// more than `bytes` of new key bytes.
+pub fn insert_all(
+    draft: &mut [u8],
+    used: usize,
+    count: usize,
+    list: &[u8],
+    marks: usize,
+    bytes: usize,
+) -> Inserted
+    requires { ⌜ Ready (now draft) used count (now list) marks bytes ⌝ }
+    ensures { λ r. ⌜ InsertedIs (now (draft .entry)) used count (now (list .entry)) marks bytes (now (draft .exit)) r ⌝ }
+{
+    let mut used = used;
+    let mut count = count;
+    let mut marks = marks;
+    let mut bytes = bytes;
+    let mut at = 0;
+    loop {
+        match next_key(list, at) {
+            NextKey::Key { from, to } => match find_place(draft, count, &list[from..to]) {
+                Found::There => at = to,
+                Found::Before(place) => {
+                    let size = to - from;
+                    if marks == 0 || bytes < size {
+                        return Inserted::Full;
+                    }
+                    let head = from - HEAD;
+                    splice(draft, used, place, 0, &list[head..to]);
+                    used += HEAD + size;
+                    count += 1;
+                    marks -= 1;
+                    bytes -= size;
+                    at = to;
+                }
+            },
+            NextKey::End => return Inserted::All { used, count },
+            NextKey::Bad => return Inserted::Full,
+        }
+    }
+}

@@ -1,2 +1,0 @@
-pub mod GoingLaws
-pub mod SetLaws
