@@ -11,7 +11,7 @@ use std::panic::{self, AssertUnwindSafe};
 use std::sync::Once;
 
 pub const KEY_LIMIT: usize = 512;
-pub const KEY_TOO_LONG: u8 = 4;
+pub const LONG_KEY: u8 = 4;
 pub const EMPTY_RANGE: u8 = 5;
 
 /// What the Rust made, or the status of the refusal.
@@ -56,7 +56,7 @@ fn within_limit(front: usize, bounds: &[Bound<&[u8]>]) -> Outcome<()> {
         Bound::Unbounded => front,
     };
     if front > KEY_LIMIT || bounds.iter().any(|bound| joined(bound) > KEY_LIMIT) {
-        return Err(KEY_TOO_LONG);
+        return Err(LONG_KEY);
     }
     Ok(())
 }

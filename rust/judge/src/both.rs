@@ -4,7 +4,7 @@ use crate::call::Call;
 use crate::reader::{read, SIZE};
 use crate::Judge;
 use stranvek::boundary::Answer;
-use stranvek::numbers::{DONE, NOT_ACTIVE};
+use stranvek::numbers::{ABSENT, DONE};
 
 /// Bytes beyond the published size, of no call's concern.
 const BEYOND: usize = 64;
@@ -35,7 +35,7 @@ impl Both {
         assert_eq!(ours, theirs, "the library's answer and the judge's, to {:02x?}", call);
         assert!(self.room[SIZE..] == before[SIZE..], "bytes beyond the size, after {:02x?}", call);
         let changed = self.room[..SIZE] != before[..SIZE];
-        let may = ours.status == DONE || ours.status == NOT_ACTIVE && call.acts_when_absent();
+        let may = ours.status == DONE || ours.status == ABSENT && call.acts_when_absent();
         assert!(may || !changed, "the room changed with status {}: {:02x?}", ours.status, call);
         let state = read(&self.room);
         let same = state.as_ref() == Some(&self.judge.state);

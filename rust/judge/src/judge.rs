@@ -7,9 +7,7 @@ use bytes::Bytes;
 use slatedb_oracle::bytes_range::BytesProbe;
 use slatedb_oracle::transaction_manager::{Active, Id, ManagerProbe, State};
 use stranvek::boundary::Answer;
-use stranvek::numbers::{
-    ALREADY_ACTIVE, BADLY_FORMED, DONE, EMPTY_RANGE, KEY_TOO_LONG, NOT_ACTIVE, NO_ROOM_LEFT,
-};
+use stranvek::numbers::{ABSENT, AGAIN, DONE, EMPTY_RANGE, FULL, LONG_KEY, MALFORMED};
 
 pub struct Judge {
     manager: ManagerProbe,
@@ -53,16 +51,16 @@ impl Judge {
             _ => call.id().is_some() && !known,
         };
         if known && matches!(call, Call::NewTransaction(_)) {
-            return Answer { status: ALREADY_ACTIVE, value: 0 };
+            return Answer { status: AGAIN, value: 0 };
         }
         if !absent && self.no_room(call, &asked) {
-            return Answer { status: NO_ROOM_LEFT, value: 0 };
+            return Answer { status: FULL, value: 0 };
         }
         let before = totals::totals(&self.state).0;
         let value = self.act(call, asked);
         self.state = self.manager.state();
         let value = value.unwrap_or_else(|| (totals::totals(&self.state).0 - before) as u64);
-        Answer { status: if absent { NOT_ACTIVE } else { DONE }, value }
+        Answer { status: if absent { ABSENT } else { DONE }, value }
     }
 
     fn active(&self, id: &Id) -> Option<&Active> {
@@ -72,22 +70,22 @@ impl Judge {
     /// The call's arguments, or 2, 4 or 5; whether a range is empty says the Rust.
     fn asked(&self, call: &Call) -> Result<Asked, u8> {
         let id = match call.id() {
-            Some(id) => id.try_into().map_err(|_| BADLY_FORMED)?,
+            Some(id) => id.try_into().map_err(|_| MALFORMED)?,
             None => [0; 16],
         };
         let mut asked = Asked { id, keys: Vec::new(), range: None, added: (0, 0) };
         if let Some(list) = call.key_list() {
-            asked.keys = forms::key_list(list).ok_or(BADLY_FORMED)?;
+            asked.keys = forms::key_list(list).ok_or(MALFORMED)?;
             if asked.keys.iter().any(|key| key.len() > KEY_LIMIT) {
-                return Err(KEY_TOO_LONG);
+                return Err(LONG_KEY);
             }
             asked.added = self.newly_stored(call, &asked);
         }
         if let Call::Range(_, bounds) = call {
-            let range = forms::bounds(bounds).ok_or(BADLY_FORMED)?;
+            let range = forms::bounds(bounds).ok_or(MALFORMED)?;
             let longest = forms::key_length(&range.0).max(forms::key_length(&range.1));
             if longest > KEY_LIMIT {
-                return Err(KEY_TOO_LONG);
+                return Err(LONG_KEY);
             }
             asked.added = totals::of_range(&range);
             asked.range = Some(BytesProbe::try_new(range.0, range.1).ok_or(EMPTY_RANGE)?);

@@ -3,7 +3,7 @@
 use crate::call::{field, Call};
 use crate::Judge;
 use stranvek::boundary::Answer;
-use stranvek::numbers::BADLY_FORMED;
+use stranvek::numbers::MALFORMED;
 
 pub const PAYLOAD_LIMIT: usize = 32_768;
 
@@ -86,7 +86,7 @@ pub fn call_of(tag: u8, payload: &[u8]) -> Option<Call> {
 impl Judge {
     /// "Leftover or missing payload is status 2."
     pub fn answer_record(&mut self, tag: u8, payload: &[u8]) -> Answer {
-        let refused = Answer { status: BADLY_FORMED, value: 0 };
+        let refused = Answer { status: MALFORMED, value: 0 };
         call_of(tag, payload).map_or(refused, |call| self.answer(&call))
     }
 }

@@ -2,7 +2,7 @@
 
 use crate::boundary::Answer;
 use crate::error::Error;
-use crate::numbers::{DONE, NOT_ACTIVE};
+use crate::numbers::{ABSENT, DONE};
 
 /// How a commit ended. The number has advanced whether or not the id was active; writes are recorded only if it was.
 #[must_use = "the commit of an id that was not active has recorded no writes"]
@@ -35,7 +35,7 @@ pub(crate) fn done(answer: Answer) -> Result<u64, Error> {
 pub(crate) fn ended(answer: Answer) -> Result<(bool, u64), Error> {
     match answer.status {
         DONE => Ok((true, answer.value)),
-        NOT_ACTIVE => Ok((false, answer.value)),
+        ABSENT => Ok((false, answer.value)),
         status => Err(refused(status)),
     }
 }

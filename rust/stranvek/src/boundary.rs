@@ -20,7 +20,7 @@
 #![allow(unsafe_code)]
 
 /// What a call answers: the value is the call's own where the status is [`DONE`](crate::numbers::DONE), and for commit and drop
-/// where it is [`NOT_ACTIVE`](crate::numbers::NOT_ACTIVE) too; else it is 0.
+/// where it is [`ABSENT`](crate::numbers::ABSENT) too; else it is 0.
 #[repr(C)]
 #[derive(Clone, Copy, Debug, PartialEq, Eq)]
 pub struct Answer {

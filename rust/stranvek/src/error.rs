@@ -17,43 +17,43 @@ use core::fmt;
 #[derive(Clone, Copy, Debug, PartialEq, Eq, Hash)]
 pub enum Error {
     /// Status 1: the id is not active.
-    NotActive,
+    Absent,
     /// Status 2: an id that is not 16 bytes, or a key list that is badly formed.
-    BadlyFormed,
+    Malformed,
     /// Status 3: a transaction of this id is active already.
-    AlreadyActive,
+    Again,
     /// Status 4: a key over [`KEY_LIMIT`](crate::KEY_LIMIT) bytes.
-    KeyTooLong,
+    LongKey,
     /// Status 5: a range that is empty by the rule: with both ends bounded, start and end are the same key and not both
     /// included, or the start lies after the end.
     EmptyRange,
     /// Status 6: the call would pass a ceiling of the room: 32 active transactions, 128 entries of recent commits, 1,024
     /// keys and ranges, 32,768 bytes of keys.
-    NoRoomLeft,
+    Full,
     /// Status 7: the room is too short, or its bytes are not the record of a state.
     NoState,
 }
 
 impl Error {
     const ALL: [Error; 7] = [
-        Error::NotActive,
-        Error::BadlyFormed,
-        Error::AlreadyActive,
-        Error::KeyTooLong,
+        Error::Absent,
+        Error::Malformed,
+        Error::Again,
+        Error::LongKey,
         Error::EmptyRange,
-        Error::NoRoomLeft,
+        Error::Full,
         Error::NoState,
     ];
 
     /// The status that the manager answered.
     pub const fn status(self) -> u8 {
         match self {
-            Error::NotActive => numbers::NOT_ACTIVE,
-            Error::BadlyFormed => numbers::BADLY_FORMED,
-            Error::AlreadyActive => numbers::ALREADY_ACTIVE,
-            Error::KeyTooLong => numbers::KEY_TOO_LONG,
+            Error::Absent => numbers::ABSENT,
+            Error::Malformed => numbers::MALFORMED,
+            Error::Again => numbers::AGAIN,
+            Error::LongKey => numbers::LONG_KEY,
             Error::EmptyRange => numbers::EMPTY_RANGE,
-            Error::NoRoomLeft => numbers::NO_ROOM_LEFT,
+            Error::Full => numbers::FULL,
             Error::NoState => numbers::NO_STATE,
         }
     }
@@ -67,12 +67,12 @@ impl Error {
 impl fmt::Display for Error {
     fn fmt(&self, f: &mut fmt::Formatter<'_>) -> fmt::Result {
         f.write_str(match self {
-            Error::NotActive => "no transaction of this id is active",
-            Error::BadlyFormed => "an id is not 16 bytes, or a key list is badly formed",
-            Error::AlreadyActive => "a transaction of this id is active already",
-            Error::KeyTooLong => "a key is longer than the manager stores",
+            Error::Absent => "no transaction of this id is active",
+            Error::Malformed => "an id is not 16 bytes, or a key list is badly formed",
+            Error::Again => "a transaction of this id is active already",
+            Error::LongKey => "a key is longer than the manager stores",
             Error::EmptyRange => "the range is empty",
-            Error::NoRoomLeft => "the call would pass a ceiling of the room",
+            Error::Full => "the call would pass a ceiling of the room",
             Error::NoState => "the room is too short or does not hold the record of a state",
         })
     }

@@ -34,10 +34,10 @@ impl<'b> KeyList<'b> {
     ///
     /// A key over 65,535 bytes is refused here, since a list cannot say its length. A key that is shorter than that and
     /// over [`KEY_LIMIT`](crate::KEY_LIMIT) is taken: the manager refuses its list with
-    /// [`Error::KeyTooLong`](crate::Error::KeyTooLong).
+    /// [`Error::LongKey`](crate::Error::LongKey).
     pub fn push(&mut self, key: &[u8]) -> Result<(), PushError> {
         if key.len() > fields::LONGEST {
-            return Err(PushError::KeyTooLong);
+            return Err(PushError::LongKey);
         }
         let rest = &mut self.buffer[self.used..];
         self.used += fields::write(rest, KEY, key).ok_or(PushError::BufferFull)?;
@@ -83,7 +83,7 @@ impl fmt::Debug for KeyList<'_> {
 /// let guest = TxnId::from([7; 16]);
 /// manager.new_transaction(&guest)?;
 /// assert_eq!(manager.track_read_keys(&guest, Keys::encoded(b"K\0\x01a")), Ok(1));
-/// assert_eq!(manager.track_read_keys(&guest, Keys::encoded(b"K\0\x09a")), Err(Error::BadlyFormed));
+/// assert_eq!(manager.track_read_keys(&guest, Keys::encoded(b"K\0\x09a")), Err(Error::Malformed));
 /// # Ok::<(), Error>(())
 /// ```
 #[derive(Clone, Copy, Debug, PartialEq, Eq)]
@@ -114,14 +114,14 @@ pub enum PushError {
     /// What is left of the buffer does not take the key and its three bytes.
     BufferFull,
     /// The key is over 65,535 bytes, a length that a list cannot say.
-    KeyTooLong,
+    LongKey,
 }
 
 impl fmt::Display for PushError {
     fn fmt(&self, f: &mut fmt::Formatter<'_>) -> fmt::Result {
         f.write_str(match self {
             PushError::BufferFull => "the list's buffer has no place left for the key",
-            PushError::KeyTooLong => "the key is over 65,535 bytes, which a list cannot say",
+            PushError::LongKey => "the key is over 65,535 bytes, which a list cannot say",
         })
     }
 }

@@ -3,17 +3,17 @@
 /// Done; the value is the call's own.
 pub const DONE: u8 = 0;
 /// The id is not active, or a minimum was asked for with nobody active.
-pub const NOT_ACTIVE: u8 = 1;
+pub const ABSENT: u8 = 1;
 /// An id that is not 16 bytes, or a key list or bounds that are badly formed.
-pub const BADLY_FORMED: u8 = 2;
+pub const MALFORMED: u8 = 2;
 /// A begin of an active id.
-pub const ALREADY_ACTIVE: u8 = 3;
+pub const AGAIN: u8 = 3;
 /// A key over [`KEY_LIMIT`] bytes.
-pub const KEY_TOO_LONG: u8 = 4;
+pub const LONG_KEY: u8 = 4;
 /// A range that is empty by the rule.
 pub const EMPTY_RANGE: u8 = 5;
 /// A call that would pass one of the room's ceilings.
-pub const NO_ROOM_LEFT: u8 = 6;
+pub const FULL: u8 = 6;
 /// A room that is too short or does not hold the record of a state.
 pub const NO_STATE: u8 = 7;
 

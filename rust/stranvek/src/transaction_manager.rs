@@ -77,12 +77,12 @@ impl<'a> TransactionManager<'a> {
     /// let mut manager = TransactionManager::new(&mut room, 7)?;
     /// let guest = TxnId::from([1; 16]);
     /// assert_eq!(manager.new_transaction(&guest), Ok(7));
-    /// assert_eq!(manager.new_transaction(&guest), Err(Error::AlreadyActive));
+    /// assert_eq!(manager.new_transaction(&guest), Err(Error::Again));
     /// # Ok::<(), Error>(())
     /// ```
     ///
     /// # Errors
-    /// [`Error::AlreadyActive`], or [`Error::NoRoomLeft`] with 32 active.
+    /// [`Error::Again`], or [`Error::Full`] with 32 active.
     pub fn new_transaction(&mut self, txn_id: &TxnId) -> Result<u64, Error> {
         done(boundary::new_transaction(self.room, txn_id.as_bytes()))
     }
@@ -126,7 +126,7 @@ impl<'a> TransactionManager<'a> {
     /// ```
     ///
     /// # Errors
-    /// [`Error::BadlyFormed`], [`Error::KeyTooLong`], [`Error::NotActive`] or [`Error::NoRoomLeft`].
+    /// [`Error::Malformed`], [`Error::LongKey`], [`Error::Absent`] or [`Error::Full`].
     pub fn track_write_keys<'k>(
         &mut self,
         txn_id: &TxnId,
@@ -146,14 +146,14 @@ impl<'a> TransactionManager<'a> {
     /// let mut manager = TransactionManager::new(&mut room, 7)?;
     /// let guest = TxnId::from([1; 16]);
     /// let sent = Keys::encoded(b"K\0\x01aK\0\x01b");
-    /// assert_eq!(manager.track_read_keys(&guest, sent), Err(Error::NotActive));
+    /// assert_eq!(manager.track_read_keys(&guest, sent), Err(Error::Absent));
     /// manager.new_transaction(&guest)?;
     /// assert_eq!(manager.track_read_keys(&guest, sent), Ok(2));
     /// # Ok::<(), Error>(())
     /// ```
     ///
     /// # Errors
-    /// [`Error::BadlyFormed`], [`Error::KeyTooLong`], [`Error::NotActive`] or [`Error::NoRoomLeft`].
+    /// [`Error::Malformed`], [`Error::LongKey`], [`Error::Absent`] or [`Error::Full`].
     pub fn track_read_keys<'k>(
         &mut self,
         txn_id: &TxnId,
@@ -183,7 +183,7 @@ impl<'a> TransactionManager<'a> {
     /// ```
     ///
     /// # Errors
-    /// [`Error::KeyTooLong`], [`Error::EmptyRange`], [`Error::NotActive`] or [`Error::NoRoomLeft`].
+    /// [`Error::LongKey`], [`Error::EmptyRange`], [`Error::Absent`] or [`Error::Full`].
     pub fn track_read_range<'k>(
         &mut self,
         txn_id: &TxnId,
@@ -211,7 +211,7 @@ impl<'a> TransactionManager<'a> {
     /// ```
     ///
     /// # Errors
-    /// [`Error::NotActive`].
+    /// [`Error::Absent`].
     pub fn check_has_conflict(&self, txn_id: &TxnId) -> Result<bool, Error> {
         done(boundary::check_has_conflict(self.room, txn_id.as_bytes())).map(|value| value != 0)
     }
@@ -233,7 +233,7 @@ impl<'a> TransactionManager<'a> {
     /// ```
     ///
     /// # Errors
-    /// [`Error::NoRoomLeft`] with 128 entries while someone else is active.
+    /// [`Error::Full`] with 128 entries while someone else is active.
     pub fn track_recent_committed_txn(
         &mut self,
         txn_id: &TxnId,
@@ -258,7 +258,7 @@ impl<'a> TransactionManager<'a> {
     /// ```
     ///
     /// # Errors
-    /// [`Error::BadlyFormed`], [`Error::KeyTooLong`], or [`Error::NoRoomLeft`] while someone is active.
+    /// [`Error::Malformed`], [`Error::LongKey`], or [`Error::Full`] while someone is active.
     pub fn track_recent_committed_write_batch<'k>(
         &mut self,
         keys: impl Into<Keys<'k>>,

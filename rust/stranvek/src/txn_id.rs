@@ -9,7 +9,7 @@ use core::fmt;
 /// let id = TxnId::from([0xa5; 16]);
 /// assert_eq!(id.to_string(), "a5a5a5a5a5a5a5a5a5a5a5a5a5a5a5a5");
 /// assert_eq!(TxnId::try_from(&[0xa5; 16][..]), Ok(id));
-/// assert_eq!(TxnId::try_from(&[0xa5; 15][..]), Err(Error::BadlyFormed));
+/// assert_eq!(TxnId::try_from(&[0xa5; 15][..]), Err(Error::Malformed));
 /// ```
 #[derive(Clone, Copy, PartialEq, Eq, PartialOrd, Ord, Hash)]
 pub struct TxnId([u8; 16]);
@@ -41,9 +41,9 @@ impl From<TxnId> for [u8; 16] {
 impl TryFrom<&[u8]> for TxnId {
     type Error = Error;
 
-    /// [`Error::BadlyFormed`] where there are not 16 bytes, as the manager itself would answer.
+    /// [`Error::Malformed`] where there are not 16 bytes, as the manager itself would answer.
     fn try_from(bytes: &[u8]) -> Result<Self, Error> {
-        bytes.try_into().map(TxnId).map_err(|_| Error::BadlyFormed)
+        bytes.try_into().map(TxnId).map_err(|_| Error::Malformed)
     }
 }
 

@@ -5,7 +5,7 @@ use std::ops::Bound;
 pub use stranvek::numbers::{EXCLUDED, INCLUDED, KEY_LIMIT, UNBOUNDED};
 
 /// The statuses that the range part answers.
-pub use stranvek::numbers::{DONE, EMPTY_RANGE, KEY_TOO_LONG};
+pub use stranvek::numbers::{DONE, EMPTY_RANGE, LONG_KEY};
 
 /// Where a bound of a `Pair` comes from.
 pub const FIRST: u8 = 0;

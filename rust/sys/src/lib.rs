@@ -10,7 +10,7 @@ use std::ops::Bound;
 pub mod answers;
 pub mod boundary;
 
-use answers::{Key, Pair, RawBound, RawRange, DONE, EMPTY_RANGE, FIRST, KEY_TOO_LONG};
+use answers::{Key, Pair, RawBound, RawRange, DONE, EMPTY_RANGE, FIRST, LONG_KEY};
 
 /// A start and an end.
 pub type KeyRange<'a> = (Bound<&'a [u8]>, Bound<&'a [u8]>);
@@ -19,7 +19,7 @@ pub type KeyRange<'a> = (Bound<&'a [u8]>, Bound<&'a [u8]>);
 #[derive(Clone, Copy, Debug, PartialEq, Eq)]
 pub enum Refused {
     /// Status 4: a key, prefix or joined key over 512 bytes.
-    KeyTooLong,
+    LongKey,
     /// Status 5: a range that is empty by the rule.
     EmptyRange,
 }
@@ -120,7 +120,7 @@ fn picked<'a>(pair: Pair, a: KeyRange<'a>, b: KeyRange<'a>) -> Option<KeyRange<'
 fn accepted(status: u8) -> Result<(), Refused> {
     match status {
         DONE => Ok(()),
-        KEY_TOO_LONG => Err(Refused::KeyTooLong),
+        LONG_KEY => Err(Refused::LongKey),
         EMPTY_RANGE => Err(Refused::EmptyRange),
         other => unreachable!("a range function answered status {}", other),
     }

@@ -4,7 +4,11 @@ use std::collections::BTreeMap;
 use std::fs;
 use std::path::Path;
 
-const RATTLE: [&str; 3] = ["stranvek/src/bytes_range.rt", "stranvek/src/boundary.rt", "stranvek/src/transaction_manager.rt"];
+const RATTLE: [&str; 3] = [
+    "stranvek/src/bytes_range.rt",
+    "stranvek/src/boundary.rt",
+    "stranvek/src/transaction_manager.rt",
+];
 /// Where the room's answer is declared.
 const ROOM_ANSWER: &str = "answers/src/lib.rt";
 /// Where the key limit and the tag of a list's keys are declared.

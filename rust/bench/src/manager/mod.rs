@@ -21,7 +21,7 @@ pub type Id = [u8; 16];
 const MEASURED: Id = [0x80; 16];
 
 /// Never begun.
-const ABSENT: Id = [0xff; 16];
+const NOBODY: Id = [0xff; 16];
 
 /// What calls have left, as far as each side tells it: the marks of the measured transaction that were added since `keep` and that
 /// it still has, the entries, the last number.

@@ -1,9 +1,9 @@
 //! The proved archive, through the boundary that a host in Rust calls.
 
 use super::scenes::{Keys, Range};
-use super::{Account, Id, Manager, ABSENT};
+use super::{Account, Id, Manager, NOBODY};
 use stranvek::boundary::{self, Answer};
-use stranvek::numbers::{DONE, NOT_ACTIVE};
+use stranvek::numbers::{ABSENT, DONE};
 
 pub struct Port {
     room: Vec<u8>,
@@ -19,7 +19,7 @@ pub fn done(answer: Answer) -> u64 {
 
 /// What commit and drop say for an id that is not active.
 pub fn told(answer: Answer) -> u64 {
-    assert_eq!(answer.status, NOT_ACTIVE);
+    assert_eq!(answer.status, ABSENT);
     answer.value
 }
 
@@ -78,8 +78,8 @@ impl Manager for Port {
     fn account(&mut self) -> Account {
         Account {
             marks: self.marks,
-            entries: told(boundary::drop_txn(&mut self.room, &ABSENT)),
-            last: told(boundary::track_recent_committed_txn(&mut self.room, &ABSENT, 0)),
+            entries: told(boundary::drop_txn(&mut self.room, &NOBODY)),
+            last: told(boundary::track_recent_committed_txn(&mut self.room, &NOBODY, 0)),
         }
     }
 }

@@ -8,7 +8,7 @@ use differential::random::Random;
 use judge::call::{self, Call};
 use judge::{draws, totals, Judge};
 use stranvek::boundary::Answer;
-use stranvek::numbers::{DONE, NO_ROOM_LEFT};
+use stranvek::numbers::{DONE, FULL};
 
 /// Above the published size.
 const ROOM: usize = 65_536;
@@ -65,7 +65,7 @@ struct Met {
 impl Met {
     fn note(&mut self, call: &Call, answer: Answer) {
         self.statuses[usize::from(answer.status)] += 1;
-        let full = u64::from(answer.status == NO_ROOM_LEFT);
+        let full = u64::from(answer.status == FULL);
         match call {
             Call::Check(_) => self.conflicts += answer.value,
             Call::NewTransaction(_) => self.no_room[0] += full,
@@ -123,7 +123,7 @@ fn alone_with_all_entries() {
     assert_eq!(kept, totals::ENTRY_LIMIT);
     all.call(&Call::NewTransaction(other.clone()));
     let commit = Call::Commit(one, 2);
-    assert_eq!(all.call(&commit), Answer { status: NO_ROOM_LEFT, value: 0 });
+    assert_eq!(all.call(&commit), Answer { status: FULL, value: 0 });
     all.call(&Call::Drop(other));
     assert_eq!(all.call(&commit), Answer { status: DONE, value: 2 });
 }

@@ -3,7 +3,7 @@ use crate::tally::Tally;
 use differential::emulated::draws;
 use differential::random::Random;
 use std::thread;
-use stranvek_sys::answers::{RawBound, RawRange, DONE, EMPTY_RANGE, KEY_LIMIT, KEY_TOO_LONG};
+use stranvek_sys::answers::{RawBound, RawRange, DONE, EMPTY_RANGE, KEY_LIMIT, LONG_KEY};
 use stranvek_sys::answers::{EXCLUDED, INCLUDED, UNBOUNDED};
 
 const QUESTIONS: usize = 1_000_000;
@@ -112,7 +112,7 @@ struct Statuses {
 fn place(status: u8) -> usize {
     match status {
         DONE => 0,
-        KEY_TOO_LONG => 1,
+        LONG_KEY => 1,
         EMPTY_RANGE => 2,
         other => panic!("status {}", other),
     }

@@ -6,7 +6,7 @@ use differential::limited::{self, owned, Outcome};
 use slatedb_oracle::bytes_range::BytesProbe;
 use slatedb_oracle::comparable_range::ComparableProbe;
 use std::ops::Bound;
-use stranvek_sys::answers::{Key, EMPTY_RANGE, KEY_LIMIT, KEY_TOO_LONG};
+use stranvek_sys::answers::{Key, EMPTY_RANGE, KEY_LIMIT, LONG_KEY};
 use stranvek_sys::Refused;
 
 /// A range whose keys have moved out of the slices that they came in.
@@ -38,7 +38,7 @@ fn oracle_made(made: Outcome<BytesProbe>) -> Outcome<Owned> {
 
 fn status<T>(answer: Result<T, Refused>) -> Outcome<T> {
     answer.map_err(|refused| match refused {
-        Refused::KeyTooLong => KEY_TOO_LONG,
+        Refused::LongKey => LONG_KEY,
         Refused::EmptyRange => EMPTY_RANGE,
     })
 }

@@ -8,7 +8,7 @@ use judge::draws;
 use judge::numbered::{key, keys};
 use judge::reader::SIZE;
 use judge::totals::{totals, ACTIVE_LIMIT, BYTE_LIMIT, ENTRY_LIMIT, KEY_LIMIT, MARK_LIMIT};
-use stranvek::numbers::{ALREADY_ACTIVE, DONE, KEY_TOO_LONG, NO_ROOM_LEFT};
+use stranvek::numbers::{AGAIN, DONE, FULL, LONG_KEY};
 
 fn id(n: usize) -> Vec<u8> {
     [&[0x5a; 14], &(n as u16).to_be_bytes()[..]].concat()
@@ -37,11 +37,11 @@ fn the_published_size() {
 #[test]
 fn active_transactions() {
     let mut both = begun(ACTIVE_LIMIT);
-    expect(&mut both, NO_ROOM_LEFT, Call::NewTransaction(id(ACTIVE_LIMIT)));
-    expect(&mut both, ALREADY_ACTIVE, Call::NewTransaction(id(0)));
+    expect(&mut both, FULL, Call::NewTransaction(id(ACTIVE_LIMIT)));
+    expect(&mut both, AGAIN, Call::NewTransaction(id(0)));
     expect(&mut both, DONE, Call::Drop(id(3)));
     expect(&mut both, DONE, Call::NewTransaction(id(ACTIVE_LIMIT)));
-    expect(&mut both, NO_ROOM_LEFT, Call::NewTransaction(id(3)));
+    expect(&mut both, FULL, Call::NewTransaction(id(3)));
     expect(&mut both, DONE, Call::Commit(id(4), 9));
     expect(&mut both, DONE, Call::NewTransaction(id(3)));
 }
@@ -52,11 +52,11 @@ fn entries() {
     for n in 0..ENTRY_LIMIT {
         expect(&mut both, DONE, Call::Batch(keys(n, 1, 2), 8 + n as u64));
     }
-    expect(&mut both, NO_ROOM_LEFT, Call::Batch(keys(0, 0, 2), 8));
-    expect(&mut both, NO_ROOM_LEFT, Call::Commit(id(0), 900));
+    expect(&mut both, FULL, Call::Batch(keys(0, 0, 2), 8));
+    expect(&mut both, FULL, Call::Commit(id(0), 900));
     expect(&mut both, DONE, Call::Drop(id(1)));
     assert_eq!(both.judge.state.entries.len(), ENTRY_LIMIT);
-    expect(&mut both, NO_ROOM_LEFT, Call::Batch(keys(0, 0, 2), 8));
+    expect(&mut both, FULL, Call::Batch(keys(0, 0, 2), 8));
     assert_eq!(expect(&mut both, DONE, Call::Commit(id(0), 900)), 900);
     assert!(both.judge.state.entries.is_empty());
     expect(&mut both, DONE, Call::Batch(keys(0, 2_000, 2), 901));
@@ -67,15 +67,15 @@ fn marks() {
     let mut both = begun(3);
     expect(&mut both, DONE, Call::Writes(id(0), keys(0, 500, 2)));
     expect(&mut both, DONE, Call::Reads(id(0), keys(0, 500, 2)));
-    expect(&mut both, NO_ROOM_LEFT, Call::Writes(id(1), keys(0, 25, 2)));
+    expect(&mut both, FULL, Call::Writes(id(1), keys(0, 25, 2)));
     let again = [keys(0, 24, 2), keys(0, 24, 2)].concat();
     assert_eq!(expect(&mut both, DONE, Call::Writes(id(1), again)), 24);
     assert_eq!(totals(&both.judge.state).0, MARK_LIMIT);
     assert_eq!(expect(&mut both, DONE, Call::Writes(id(0), keys(0, 500, 2))), 0);
     let all = [field(0x10, &[]), field(0x10, &[])].concat();
-    expect(&mut both, NO_ROOM_LEFT, Call::Range(id(2), all.clone()));
-    expect(&mut both, NO_ROOM_LEFT, Call::Reads(id(2), list_of(&[""])));
-    expect(&mut both, NO_ROOM_LEFT, Call::Batch(list_of(&[""]), 9));
+    expect(&mut both, FULL, Call::Range(id(2), all.clone()));
+    expect(&mut both, FULL, Call::Reads(id(2), list_of(&[""])));
+    expect(&mut both, FULL, Call::Batch(list_of(&[""]), 9));
     expect(&mut both, DONE, Call::Batch(keys(0, 0, 2), 9));
     // Its reads go, its writes move into an entry.
     expect(&mut both, DONE, Call::Commit(id(0), 9));
@@ -83,27 +83,27 @@ fn marks() {
     for _ in 0..500 {
         expect(&mut both, DONE, Call::Range(id(2), all.clone()));
     }
-    expect(&mut both, NO_ROOM_LEFT, Call::Range(id(1), all));
+    expect(&mut both, FULL, Call::Range(id(1), all));
 }
 
 #[test]
 fn key_bytes() {
     let mut both = begun(3);
-    expect(&mut both, KEY_TOO_LONG, Call::Writes(id(0), keys(0, 1, KEY_LIMIT + 1)));
+    expect(&mut both, LONG_KEY, Call::Writes(id(0), keys(0, 1, KEY_LIMIT + 1)));
     expect(&mut both, DONE, Call::Writes(id(0), keys(0, 62, KEY_LIMIT)));
     let ends =
         |longest: usize| [field(0x11, &key(1, KEY_LIMIT)), field(0x12, &key(2, longest))].concat();
     expect(&mut both, DONE, Call::Range(id(1), ends(KEY_LIMIT - 2)));
     assert_eq!(totals(&both.judge.state).1, BYTE_LIMIT - 2);
-    expect(&mut both, NO_ROOM_LEFT, Call::Reads(id(2), list_of(&["abc"])));
-    expect(&mut both, NO_ROOM_LEFT, Call::Batch(list_of(&["a", "bc"]), 9));
+    expect(&mut both, FULL, Call::Reads(id(2), list_of(&["abc"])));
+    expect(&mut both, FULL, Call::Batch(list_of(&["a", "bc"]), 9));
     expect(&mut both, DONE, Call::Batch(list_of(&["a", "b"]), 9));
     assert_eq!(totals(&both.judge.state).1, BYTE_LIMIT);
-    expect(&mut both, NO_ROOM_LEFT, Call::Reads(id(2), list_of(&["a"])));
+    expect(&mut both, FULL, Call::Reads(id(2), list_of(&["a"])));
     assert_eq!(expect(&mut both, DONE, Call::Reads(id(2), list_of(&[""]))), 1);
     expect(&mut both, DONE, Call::Drop(id(0)));
     expect(&mut both, DONE, Call::Writes(id(2), keys(0, 62, KEY_LIMIT)));
-    expect(&mut both, NO_ROOM_LEFT, Call::Range(id(2), ends(2)));
+    expect(&mut both, FULL, Call::Range(id(2), ends(2)));
 }
 
 /// A call that asks for much: many ids, long lists, keys of any length.
@@ -146,5 +146,5 @@ fn random_runs_that_fill_rooms() {
         }
     }
     println!("statuses 0 to 7: {:?}, full {:?}", statuses, full);
-    assert!(full.iter().all(|&met| met) && statuses[usize::from(NO_ROOM_LEFT)] > 50 * runs);
+    assert!(full.iter().all(|&met| met) && statuses[usize::from(FULL)] > 50 * runs);
 }

@@ -8,7 +8,7 @@ use judge::draws;
 use judge::forms;
 use std::ops::Bound;
 use stranvek::boundary::Answer;
-use stranvek::numbers::{DONE, NOT_ACTIVE};
+use stranvek::numbers::{ABSENT, DONE};
 use stranvek::{Error, KeyList, Keys, TransactionManager, TxnId};
 
 fn done(answer: Result<u64, Error>) -> Answer {
@@ -21,7 +21,7 @@ fn done(answer: Result<u64, Error>) -> Answer {
 fn ended(answer: Result<(bool, u64), Error>) -> Answer {
     match answer {
         Ok((true, value)) => Answer { status: DONE, value },
-        Ok((false, value)) => Answer { status: NOT_ACTIVE, value },
+        Ok((false, value)) => Answer { status: ABSENT, value },
         Err(error) => done(Err(error)),
     }
 }

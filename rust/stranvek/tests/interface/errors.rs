@@ -27,11 +27,11 @@ fn refused_list(manager: &mut TransactionManager, error: Error, list: Keys) {
 fn not_active() {
     let mut room = room();
     let mut manager = TransactionManager::new(&mut room, 7).expect("a room");
-    refused(&mut manager, Error::NotActive, |manager| manager.check_has_conflict(&A));
-    refused(&mut manager, Error::NotActive, |manager| manager.track_read_range(&A, ..));
+    refused(&mut manager, Error::Absent, |manager| manager.check_has_conflict(&A));
+    refused(&mut manager, Error::Absent, |manager| manager.track_read_range(&A, ..));
     with(&["k"], |list| {
-        refused(&mut manager, Error::NotActive, |manager| manager.track_write_keys(&A, list));
-        refused(&mut manager, Error::NotActive, |manager| manager.track_read_keys(&A, list));
+        refused(&mut manager, Error::Absent, |manager| manager.track_write_keys(&A, list));
+        refused(&mut manager, Error::Absent, |manager| manager.track_read_keys(&A, list));
     });
 }
 
@@ -41,10 +41,10 @@ fn badly_formed() {
     let mut manager = TransactionManager::new(&mut room, 7).expect("a room");
     manager.new_transaction(&A).expect("a transaction");
     for list in [&b"K"[..], b"K\0", b"K\0\x02k", b"L\0\x01k", b"K\0\x01kK"] {
-        refused_list(&mut manager, Error::BadlyFormed, Keys::encoded(list));
+        refused_list(&mut manager, Error::Malformed, Keys::encoded(list));
     }
     for length in [0, 15, 17] {
-        assert_eq!(TxnId::try_from(&vec![1; length][..]), Err(Error::BadlyFormed));
+        assert_eq!(TxnId::try_from(&vec![1; length][..]), Err(Error::Malformed));
     }
 }
 
@@ -53,7 +53,7 @@ fn already_active() {
     let mut room = room();
     let mut manager = TransactionManager::new(&mut room, 7).expect("a room");
     manager.new_transaction(&A).expect("a transaction");
-    refused(&mut manager, Error::AlreadyActive, |manager| manager.new_transaction(&A));
+    refused(&mut manager, Error::Again, |manager| manager.new_transaction(&A));
     assert_eq!(manager.new_transaction(&B), Ok(7));
 }
 
@@ -64,11 +64,11 @@ fn key_too_long() {
     manager.new_transaction(&A).expect("a transaction");
     let long = key(0, KEY_LIMIT + 1);
     with(&[&b"k"[..], &long], |list| {
-        refused_list(&mut manager, Error::KeyTooLong, list.into());
+        refused_list(&mut manager, Error::LongKey, list.into());
     });
     let long = long.as_slice();
-    refused(&mut manager, Error::KeyTooLong, |manager| manager.track_read_range(&A, long..));
-    refused(&mut manager, Error::KeyTooLong, |manager| manager.track_read_range(&A, ..long));
+    refused(&mut manager, Error::LongKey, |manager| manager.track_read_range(&A, long..));
+    refused(&mut manager, Error::LongKey, |manager| manager.track_read_range(&A, ..long));
     let longest = &long[..KEY_LIMIT];
     assert_eq!(with(&[longest], |list| manager.track_write_keys(&A, list)), Ok(1));
     assert_eq!(manager.track_read_range(&A, longest..), Ok(1));
@@ -92,18 +92,18 @@ fn no_room_left() {
     for n in 0..32 {
         assert_eq!(manager.new_transaction(&TxnId::from([n; 16])), Ok(7));
     }
-    refused(&mut manager, Error::NoRoomLeft, |manager| manager.new_transaction(&[99; 16].into()));
+    refused(&mut manager, Error::Full, |manager| manager.new_transaction(&[99; 16].into()));
     with(&keys(1_025, 2), |list| {
-        refused_list(&mut manager, Error::NoRoomLeft, list.into());
+        refused_list(&mut manager, Error::Full, list.into());
     });
     with(&keys(128, 2), |list| assert_eq!(manager.track_write_keys(&A, list), Ok(128)));
     with(&keys(896, 2), |list| assert_eq!(manager.track_write_keys(&B, list), Ok(896)));
-    refused(&mut manager, Error::NoRoomLeft, |manager| manager.track_read_range(&C, ..));
+    refused(&mut manager, Error::Full, |manager| manager.track_read_range(&C, ..));
     for n in 0..128 {
         let none = Keys::encoded(&[]);
         assert_eq!(manager.track_recent_committed_write_batch(none, 8 + n), Ok(8 + n));
     }
-    refused(&mut manager, Error::NoRoomLeft, |manager| manager.track_recent_committed_txn(&A, 9));
+    refused(&mut manager, Error::Full, |manager| manager.track_recent_committed_txn(&A, 9));
 }
 
 #[test]
@@ -119,12 +119,12 @@ fn no_state() {
 
 /// Document 01's table.
 const TABLE: [(u8, Error); 7] = [
-    (1, Error::NotActive),
-    (2, Error::BadlyFormed),
-    (3, Error::AlreadyActive),
-    (4, Error::KeyTooLong),
+    (1, Error::Absent),
+    (2, Error::Malformed),
+    (3, Error::Again),
+    (4, Error::LongKey),
     (5, Error::EmptyRange),
-    (6, Error::NoRoomLeft),
+    (6, Error::Full),
     (7, Error::NoState),
 ];
 

@@ -36,18 +36,18 @@ fn a_full_list_stays_as_it_is_and_serves_again() {
 fn the_longest_key_of_a_list() {
     let mut buffer = vec![0x77; 70_000];
     let mut list = KeyList::new(&mut buffer);
-    assert_eq!(list.push(&key(0, 65_536)), Err(PushError::KeyTooLong));
+    assert_eq!(list.push(&key(0, 65_536)), Err(PushError::LongKey));
     assert!(list.is_empty() && list.as_bytes().is_empty());
     list.push(&key(0, 65_535)).expect("a length that two bytes say");
     assert_eq!(list.as_bytes()[..3], *b"K\xff\xff");
     let mut room = room();
     let mut manager = TransactionManager::new(&mut room, 7).expect("a room");
-    assert_eq!(manager.track_write_keys(&A, &list), Err(Error::KeyTooLong));
+    assert_eq!(manager.track_write_keys(&A, &list), Err(Error::LongKey));
 }
 
 #[test]
 fn each_reason_has_its_sentence() {
-    let [full, long] = [PushError::BufferFull, PushError::KeyTooLong].map(|why| why.to_string());
+    let [full, long] = [PushError::BufferFull, PushError::LongKey].map(|why| why.to_string());
     assert_ne!(full, long);
     assert!(full.contains("buffer") && long.contains("65,535"));
 }

@@ -98,7 +98,7 @@ fn a_long_key_is_answered_as_the_whole_key_would_be() {
                     for id in [&A, &TxnId::from([1; 16])] {
                         let due = whole(manager.room(), id, range);
                         assert_eq!(manager.track_read_range(id, range).err(), due, "{}", length);
-                        too_long += u64::from(due == Some(Error::KeyTooLong));
+                        too_long += u64::from(due == Some(Error::LongKey));
                         compared += 1;
                     }
                 }
@@ -116,6 +116,6 @@ fn a_key_that_no_field_can_hold_is_too_long() {
     let long = key(0, 65_536 + 5);
     let long = long.as_slice();
     for range in [(Included(long), Unbounded), (Unbounded, Excluded(long))] {
-        assert_eq!(manager.track_read_range(&A, range), Err(Error::KeyTooLong));
+        assert_eq!(manager.track_read_range(&A, range), Err(Error::LongKey));
     }
 }

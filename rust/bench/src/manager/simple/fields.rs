@@ -4,7 +4,7 @@ use super::sets::Range;
 use crate::manager::Id;
 use std::ops::Bound;
 use stranvek::numbers::{
-    BADLY_FORMED, EMPTY_RANGE, EXCLUDED, INCLUDED, KEY_LIMIT, KEY_TOO_LONG, UNBOUNDED,
+    EMPTY_RANGE, EXCLUDED, INCLUDED, KEY_LIMIT, LONG_KEY, MALFORMED, UNBOUNDED,
 };
 
 /// The tag of a key in a list.
@@ -14,16 +14,16 @@ const KEY_TAG: u8 = 0x4b;
 type Field<'a> = (u8, &'a [u8]);
 
 pub fn id(bytes: &[u8]) -> Result<Id, u8> {
-    bytes.try_into().map_err(|_| BADLY_FORMED)
+    bytes.try_into().map_err(|_| MALFORMED)
 }
 
 pub fn key_list(bytes: &[u8]) -> Result<Vec<&[u8]>, u8> {
     let mut keys = Vec::new();
     let mut rest = bytes;
     while !rest.is_empty() {
-        let ((tag, key), after) = first(rest).ok_or(BADLY_FORMED)?;
+        let ((tag, key), after) = first(rest).ok_or(MALFORMED)?;
         if tag != KEY_TAG {
-            return Err(BADLY_FORMED);
+            return Err(MALFORMED);
         }
         keys.push(key);
         rest = after;
@@ -33,11 +33,11 @@ pub fn key_list(bytes: &[u8]) -> Result<Vec<&[u8]>, u8> {
 }
 
 pub fn range(bytes: &[u8]) -> Result<Range, u8> {
-    let (start, rest) = first(bytes).ok_or(BADLY_FORMED)?;
-    let (end, rest) = first(rest).ok_or(BADLY_FORMED)?;
+    let (start, rest) = first(bytes).ok_or(MALFORMED)?;
+    let (end, rest) = first(rest).ok_or(MALFORMED)?;
     let range = Range { start: bound(start)?, end: bound(end)? };
     if !rest.is_empty() {
-        return Err(BADLY_FORMED);
+        return Err(MALFORMED);
     }
     within_limit(&[start.1, end.1])?;
     if range.is_empty() {
@@ -58,13 +58,13 @@ fn bound((tag, key): Field) -> Result<Bound<Box<[u8]>>, u8> {
         UNBOUNDED if key.is_empty() => Ok(Bound::Unbounded),
         INCLUDED => Ok(Bound::Included(key.into())),
         EXCLUDED => Ok(Bound::Excluded(key.into())),
-        _ => Err(BADLY_FORMED),
+        _ => Err(MALFORMED),
     }
 }
 
 fn within_limit(keys: &[&[u8]]) -> Result<(), u8> {
     if keys.iter().any(|key| key.len() > KEY_LIMIT) {
-        return Err(KEY_TOO_LONG);
+        return Err(LONG_KEY);
     }
     Ok(())
 }

@@ -12,7 +12,7 @@ pub use side::Sorted;
 use crate::manager::Id;
 use sets::{Range, Set};
 use stranvek::boundary::Answer;
-use stranvek::numbers::{ALREADY_ACTIVE, DONE, NOT_ACTIVE, NO_ROOM_LEFT};
+use stranvek::numbers::{ABSENT, AGAIN, DONE, FULL};
 use totals::{Totals, ACTIVE_LIMIT, ENTRY_LIMIT};
 
 #[derive(Clone)]
@@ -48,7 +48,7 @@ fn done(value: u64) -> Answer {
 
 /// What commit and drop answer, for an id that is not active too.
 fn ended(known: bool, value: u64) -> Answer {
-    Answer { status: if known { DONE } else { NOT_ACTIVE }, value }
+    Answer { status: if known { DONE } else { ABSENT }, value }
 }
 
 impl Simple {
@@ -59,9 +59,9 @@ impl Simple {
     pub fn new_transaction(&mut self, id: &[u8]) -> Answer {
         answered(|| {
             let id = fields::id(id)?;
-            let at = self.place(&id).map_or_else(Ok, |_| Err(ALREADY_ACTIVE))?;
+            let at = self.place(&id).map_or_else(Ok, |_| Err(AGAIN))?;
             if self.active.len() == ACTIVE_LIMIT {
-                return Err(NO_ROOM_LEFT);
+                return Err(FULL);
             }
             let (start, writes, reads, ranges) = (self.last, Set::new(), Set::new(), Vec::new());
             self.active.insert(at, Active { id, start, writes, reads, ranges });
@@ -94,7 +94,7 @@ impl Simple {
         answered(|| {
             let id = fields::id(id)?;
             let range = fields::range(range)?;
-            let at = self.place(&id).map_err(|_| NOT_ACTIVE)?;
+            let at = self.place(&id).map_err(|_| ABSENT)?;
             self.totals.add(Totals::of_range(&range))?;
             self.active[at].ranges.push(range);
             Ok(done(1))
@@ -104,7 +104,7 @@ impl Simple {
     pub fn check_has_conflict(&self, id: &[u8]) -> Answer {
         answered(|| {
             let id = fields::id(id)?;
-            let at = self.place(&id).map_err(|_| NOT_ACTIVE)?;
+            let at = self.place(&id).map_err(|_| ABSENT)?;
             let txn = &self.active[at];
             let mut above = self.entries.iter().filter(|entry| entry.seq > txn.start);
             Ok(done(above.any(|entry| txn.conflicts(&entry.keys)).into()))
@@ -116,7 +116,7 @@ impl Simple {
             let known = self.place(&fields::id(id)?);
             if let Ok(at) = known {
                 if self.entries.len() == ENTRY_LIMIT && self.active.len() > 1 {
-                    return Err(NO_ROOM_LEFT);
+                    return Err(FULL);
                 }
                 let txn = self.active.remove(at);
                 self.forget_reads(&txn);
@@ -133,7 +133,7 @@ impl Simple {
             let keys = sets::lacking(&[], fields::key_list(keys)?);
             if !self.active.is_empty() {
                 if self.entries.len() == ENTRY_LIMIT {
-                    return Err(NO_ROOM_LEFT);
+                    return Err(FULL);
                 }
                 self.totals.add(Totals::of_keys(&keys))?;
                 let keys = keys.into_iter().map(Box::from).collect();
@@ -145,7 +145,7 @@ impl Simple {
     }
 
     pub fn min_active_seq(&self) -> Answer {
-        answered(|| self.least_start().map(done).ok_or(NOT_ACTIVE))
+        answered(|| self.least_start().map(done).ok_or(ABSENT))
     }
 
     /// Where the id's transaction stands, or where it would.
@@ -165,7 +165,7 @@ impl Simple {
     ) -> Result<u64, u8> {
         let id = fields::id(id)?;
         let keys = fields::key_list(keys)?;
-        let at = self.place(&id).map_err(|_| NOT_ACTIVE)?;
+        let at = self.place(&id).map_err(|_| ABSENT)?;
         let set = set(&mut self.active[at]);
         let keys = sets::lacking(set, keys);
         self.totals.add(Totals::of_keys(&keys))?;

@@ -3,7 +3,7 @@
 use super::{Active, Simple, Totals};
 use crate::manager::port::{done, told};
 use crate::manager::scenes::{Keys, Range};
-use crate::manager::{Account, Id, Manager, ABSENT, MEASURED};
+use crate::manager::{Account, Id, Manager, MEASURED, NOBODY};
 
 pub struct Sorted {
     manager: Simple,
@@ -82,8 +82,8 @@ impl Manager for Sorted {
     fn account(&mut self) -> Account {
         Account {
             marks: self.marks,
-            entries: told(self.manager.drop_txn(&ABSENT)),
-            last: told(self.manager.track_recent_committed_txn(&ABSENT, 0)),
+            entries: told(self.manager.drop_txn(&NOBODY)),
+            last: told(self.manager.track_recent_committed_txn(&NOBODY, 0)),
         }
     }
 }

@@ -2,7 +2,7 @@
 
 use super::sets::{Range, Set};
 use std::ops::Bound;
-use stranvek::numbers::NO_ROOM_LEFT;
+use stranvek::numbers::FULL;
 
 pub const ACTIVE_LIMIT: usize = 32;
 pub const ENTRY_LIMIT: usize = 128;
@@ -36,7 +36,7 @@ impl Totals {
     pub fn add(&mut self, more: Totals) -> Result<(), u8> {
         let sum = Totals { marks: self.marks + more.marks, bytes: self.bytes + more.bytes };
         if sum.marks > MARK_LIMIT || sum.bytes > BYTE_LIMIT {
-            return Err(NO_ROOM_LEFT);
+            return Err(FULL);
         }
         *self = sum;
         Ok(())
