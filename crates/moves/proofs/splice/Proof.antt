@@ -22,8 +22,12 @@ copy-in-requires c κs = search needs
 same-length : tie.Need-same-length
 same-length c = search needs
 
+-- from a named place back to the one before it, and to the start
+abbrev before-room : tie.After-room → tie.After-shift
+before-room c = c .before
+
 returns : tie.Need-returns
-returns c = spliced _ _ _ _ _ (omega arith) (omega arith) (omega arith) _ _ (c .before .before .before .before .before .before .shift .ensures) (c .before .before .copy-in .ensures)
+returns c = spliced _ _ _ _ _ (omega arith) (omega arith) (omega arith) _ _ (before-room (c .before .before .before .before .before) .shift .ensures) (c .before .before .copy-in .ensures)
 
 pub splice-spec : {M : Type 1} → statement M
 splice-spec =
