@@ -9,20 +9,19 @@ use native.Mathlib.Omega.{arith}
 use lib.ListN.{length, length-append}
 use Rattle.fields.specs.Fields.{keyList}
 use Rattle.fields.specs.Forms.{shortKeys}
-use Rattle.machine.specs.Lists.{sum}
-use Rattle.machine.specs.State.{Bytes, Txn, Entry, State, Ceilings, fits, Fits, Ascends, ids, MachineState, marks, keyBytes, txnMarks, txnBytes, entryMarks, entryBytes, setBytes}
-use Rattle.machine.specs.Sets.{insertAll, find, without, prune, append}
+use Rattle.machine.specs.Lists.{keep, sum}
+use Rattle.machine.specs.State.{Bytes, Txn, Entry, State, Ceilings, withActive, withEntries, advanced, fits, Fits, Ascends, ids, MachineState, marks, keyBytes, txnMarks, txnBytes, entryMarks, entryBytes, setBytes}
+use Rattle.machine.specs.Sets.{insertAll, find, without, prune, anyActive}
 use Rattle.machine.specs.Calls.{commit, batch, dropTxn, malformed, long, full, Answer, done, absent, refused}
-use Rattle.machine.specs.Serve.{state, entry, isId, enter, answer}
-use Rattle.machine.proofs.Kept.{fits-means, fresh-ok}
+use Rattle.machine.specs.Serve.{entry, isId, enter, answer}
+use Rattle.machine.proofs.Kept.{fits-means}
 use Rattle.machine.proofs.ListLaws.{sum-append}
+use Rattle.machine.proofs.EntryLaws.{empty-rule, rule-idle, anyone-keeps}
 use Rattle.machine.proofs.ActiveLaws.{without-sum, without-length, without-same}
 use Rattle.answers.proofs.StateLaws.{is-id, no-id, fits-not}
 
-some-left : (left : List Txn) (es : List Entry) (e : Entry) → 0 < length left → append left es e ≡ es ++ (e ∷ [])
-unfolding append
-some-left [] es e h = absurd (omega (arith, h))
-some-left (t ∷ ts) es e h = refl
+some-left : (left : List Txn) (es : List Entry) → 0 < length left → keep (anyActive left) es ≡ es
+some-left left es h = anyone-keeps left es (λ e. omega (arith, h, ap (length {A = Txn}) e))
 
 one-more : (es : List Entry) (e : Entry) → length (es ++ (e ∷ [])) ≡ suc (length es)
 one-more es e = length-append es (e ∷ []) ∙ omega arith
@@ -31,27 +30,36 @@ sum-one : (f : Entry → ℕ) (es : List Entry) (e : Entry) → sum f (es ++ (e 
 unfolding sum
 sum-one f es e = sum-append f es (e ∷ []) ∙ omega arith
 
+-- the state after an entry by those who are left, and where nobody is
+abbrev pub joined : List Txn → ℕ → List Bytes → State → State
+joined left n ks s = withEntries (s .entries ++ (entry n ks ∷ [])) (withActive left (advanced n s))
+
+abbrev pub emptied : ℕ → State → State
+emptied n s = withEntries [] (withActive [] (advanced n s))
+
+nothing-fits : (L : Ceilings) (n : ℕ) (s : State) → Fits L (emptied n s)
+unfolding sum
+nothing-fits L n s = record { active = omega arith; entries = omega arith; marks = omega arith; bytes = omega arith }
+
 module _ (L : Ceilings) (s : State) (left : List Txn) (n : ℕ) (ks : List Bytes) where
-  -- the state after an entry by those who are left
-  abbrev pub entered : State
-  entered = state (max (s .last) n) left (s .entries ++ (entry n ks ∷ []))
+  abbrev listed : List Entry
+  listed = s .entries ++ (entry n ks ∷ [])
 
-  enter-idle : left ≡ [] → enter L s left n ks ≡ done (max (s .last) n) (state (max (s .last) n) [] [])
-  unfolding append
-  enter-idle e = rw (e, fits-means L (state (max (s .last) n) [] []) .1 (fresh-ok L (max (s .last) n) .ceilings))
+  enter-idle : left ≡ [] → enter L s left n ks ≡ done (max (s .last) n) (emptied n s)
+  enter-idle e = rw (e, rule-idle anyActive empty-rule [] listed refl, fits-means L (emptied n s) .1 (nothing-fits L n s))
 
-  enter-full : 0 < length left → (Fits L entered → ⊥) → enter L s left n ks ≡ refused full
-  enter-full h k = rw (some-left left (s .entries) (entry n ks) h, fits-not L entered k)
+  enter-full : 0 < length left → (Fits L (joined left n ks s) → ⊥) → enter L s left n ks ≡ refused full
+  enter-full h k = rw (some-left left listed h, fits-not L (joined left n ks s) k)
 
-  enter-done : 0 < length left → Fits L entered → enter L s left n ks ≡ done (max (s .last) n) entered
-  enter-done h f = rw (some-left left (s .entries) (entry n ks) h, fits-means L entered .1 f)
+  enter-done : 0 < length left → Fits L (joined left n ks s) → enter L s left n ks ≡ done (max (s .last) n) (joined left n ks s)
+  enter-done h f = rw (some-left left listed h, fits-means L (joined left n ks s) .1 f)
 
 module _ (L : Ceilings) (s : State) (i : Bytes) (n : ℕ) where
   pub commit-malformed : (length i ≡ 16 → ⊥) → answer L s (commit i n) ≡ refused malformed
   unfolding answer
   commit-malformed h = rw (no-id i h)
 
-  pub commit-absent : length i ≡ 16 → find i (s .active) ≡ none → answer L s (commit i n) ≡ absent (max (s .last) n) (state (max (s .last) n) (s .active) (s .entries))
+  pub commit-absent : length i ≡ 16 → find i (s .active) ≡ none → answer L s (commit i n) ≡ absent (max (s .last) n) (advanced n s)
   unfolding answer
   commit-absent h e = rw (is-id i h, e)
 
@@ -60,14 +68,14 @@ module _ (L : Ceilings) (s : State) (i : Bytes) (n : ℕ) where
     unfolding answer
     commit-enters = rw (is-id i h, e)
 
-    pub commit-alone : without i (s .active) ≡ [] → answer L s (commit i n) ≡ done (max (s .last) n) (state (max (s .last) n) [] [])
+    pub commit-alone : without i (s .active) ≡ [] → answer L s (commit i n) ≡ done (max (s .last) n) (emptied n s)
     commit-alone k = commit-enters ∙ enter-idle L s (without i (s .active)) n (t .writes) k
 
     pub commit-full : 0 < length (without i (s .active)) → L .entries ≤ length (s .entries) → answer L s (commit i n) ≡ refused full
     commit-full k l =
         commit-enters ∙ enter-full L s (without i (s .active)) n (t .writes) k (λ f. omega (arith, f .entries, one-more (s .entries) (entry n (t .writes))))
 
-    pub commit-done : 0 < length (without i (s .active)) → length (s .entries) < L .entries → MachineState L s → answer L s (commit i n) ≡ done (max (s .last) n) (entered L s (without i (s .active)) n (t .writes))
+    pub commit-done : 0 < length (without i (s .active)) → length (s .entries) < L .entries → MachineState L s → answer L s (commit i n) ≡ done (max (s .last) n) (joined (without i (s .active)) n (t .writes) s)
     commit-done k l o =
         let x : Entry = entry n (t .writes) in
         let f = o .ceilings in
@@ -95,7 +103,7 @@ module _ (L : Ceilings) (s : State) (n : ℕ) (bs : Bytes) where
       unfolding answer
       batch-enters = rw (e, k)
 
-      pub batch-idle : s .active ≡ [] → answer L s (batch n bs) ≡ done (max (s .last) n) (state (max (s .last) n) [] [])
+      pub batch-idle : s .active ≡ [] → answer L s (batch n bs) ≡ done (max (s .last) n) (emptied n s)
       batch-idle q = batch-enters ∙ enter-idle L s (s .active) n (insertAll ks []) q
 
       -- an entry too many, or a total that would be passed
@@ -107,13 +115,13 @@ module _ (L : Ceilings) (s : State) (n : ℕ) (bs : Bytes) where
           x : Entry
           x = entry n (insertAll ks [])
 
-          passes : Fits L (entered L s (s .active) n (insertAll ks [])) → (L .entries ≤ length (s .entries)) ⊎ ((L .marks < marks s + length (insertAll ks [])) ⊎ (L .bytes < keyBytes s + setBytes (insertAll ks []))) → ⊥
+          passes : Fits L (joined (s .active) n (insertAll ks []) s) → (L .entries ≤ length (s .entries)) ⊎ ((L .marks < marks s + length (insertAll ks [])) ⊎ (L .bytes < keyBytes s + setBytes (insertAll ks []))) → ⊥
           passes f (inl a) = omega (arith, f .entries, one-more (s .entries) x)
           passes f (inr (inl a)) = omega (arith, f .marks, sum-one entryMarks (s .entries) x)
           passes f (inr (inr a)) = omega (arith, f .bytes, sum-one entryBytes (s .entries) x)
 
       pub batch-done : 0 < length (s .active) → length (s .entries) < L .entries → marks s + length (insertAll ks []) ≤ L .marks → keyBytes s + setBytes (insertAll ks []) ≤ L .bytes → MachineState L s
-          → answer L s (batch n bs) ≡ done (max (s .last) n) (entered L s (s .active) n (insertAll ks []))
+          → answer L s (batch n bs) ≡ done (max (s .last) n) (joined (s .active) n (insertAll ks []) s)
       batch-done q l a b o =
           let x : Entry = entry n (insertAll ks []) in
           batch-enters
@@ -130,11 +138,11 @@ module _ (L : Ceilings) (s : State) (i : Bytes) where
   unfolding answer
   drop-malformed h = rw (no-id i h)
 
-  pub drop-absent : (es : List Entry) → length i ≡ 16 → find i (s .active) ≡ none → prune (s .active) (s .entries) ≡ es → answer L s (dropTxn i) ≡ absent (length es) (state (s .last) (s .active) es)
+  pub drop-absent : (es : List Entry) → length i ≡ 16 → find i (s .active) ≡ none → prune (s .active) (s .entries) ≡ es → answer L s (dropTxn i) ≡ absent (length es) (withEntries es s)
   unfolding answer
   drop-absent es h e p = rw (is-id i h, e, without-same i (s .active) e, p)
 
   pub drop-done : (t : Txn) (left : List Txn) (es : List Entry) → length i ≡ 16 → find i (s .active) ≡ some t → without i (s .active) ≡ left → prune left (s .entries) ≡ es
-      → answer L s (dropTxn i) ≡ done (length es) (state (s .last) left es)
+      → answer L s (dropTxn i) ≡ done (length es) (withEntries es (withActive left s))
   unfolding answer
   drop-done t left es h e w p = rw (is-id i h, e, w, p)

@@ -9,10 +9,11 @@ use borrow.Author.Tests.{eq-eqb, ne-eqb}
 use lib.Dec.{eqb}
 use lib.ListN.{length}
 use Rattle.machine.specs.Lists.{sum}
-use Rattle.machine.specs.State.{Bytes, Txn, Entry, State, Ceilings, fits, Fits, MachineState, marks, keyBytes, txnMarks, txnBytes}
+use Rattle.machine.specs.State.{Bytes, Txn, Entry, State, Ceilings, newTxn, fits, Fits, MachineState, marks, keyBytes, txnMarks, txnBytes}
 use Rattle.machine.specs.Sets.{put, find, least, leastOf, conflict}
 use Rattle.machine.specs.Calls.{begin, check, minimum, malformed, again, full, Answer, done, absent, refused}
-use Rattle.machine.specs.Serve.{state, newTxn, isId, verdict, answer}
+use Rattle.machine.specs.Serve.{isId, verdict, answer}
+use Rattle.machine.specs.Serve as Serve
 use Rattle.machine.proofs.Kept.{fits-means}
 use Rattle.machine.proofs.ActiveLaws.{put-new-length, put-new-sum}
 
@@ -37,7 +38,7 @@ fits-not L s h = not-true (fits L s) (λ e. h (fits-means L s .0 e))
 
 module _ (L : Ceilings) (s : State) (i : Bytes) where
   abbrev pub begun : State
-  begun = state (s .last) (put (newTxn i (s .last)) (s .active)) (s .entries)
+  begun = Serve.begun i s
 
   pub begin-malformed : (length i ≡ 16 → ⊥) → answer L s (begin i) ≡ refused malformed
   unfolding answer

@@ -10,11 +10,12 @@ use lib.ListN.{length}
 use Rattle.bounds.specs.Ranges.{Range, notEmpty}
 use Rattle.fields.specs.Fields.{keyList, boundsOf}
 use Rattle.fields.specs.Forms.{shortKeys}
+use Rattle.machine.specs.declared.Which.{Which}
 use Rattle.machine.specs.Lists.{sum}
 use Rattle.machine.specs.State.{Bytes, Txn, Entry, State, Ceilings, fits, Fits, MachineState, marks, keyBytes, txnMarks, txnBytes}
 use Rattle.machine.specs.Sets.{put, find}
-use Rattle.machine.specs.Calls.{trackWrites, trackReads, trackRange, malformed, long, empty, full, Answer, done, absent, refused}
-use Rattle.machine.specs.Serve.{state, isId, shortRange, addWrites, addReads, addRange, track, answer}
+use Rattle.machine.specs.Calls.{trackKeys, trackRange, malformed, long, empty, full, Answer, done, absent, refused}
+use Rattle.machine.specs.Serve.{isId, shortRange, addKeys, addRange, withTxn, track, answer}
 use Rattle.machine.proofs.Kept.{fits-means}
 use Rattle.machine.proofs.ActiveLaws.{find-id, put-known-sum, put-known-length}
 use Rattle.answers.proofs.StateLaws.{is-id, no-id, fits-not}
@@ -26,22 +27,19 @@ module _ (L : Ceilings) (s : State) (i : Bytes) (f : Txn → Txn) where
   track-absent e = rw e
 
   module _ (t t' : Txn) (m b : ℕ) (e : find i (s .active) ≡ some t) (ft : f t ≡ t') (same : t' .id ≡ t .id) (em : txnMarks t' ≡ txnMarks t + m) (eb : txnBytes t' ≡ txnBytes t + b) (o : MachineState L s) where
-    abbrev pub tracked : State
-    tracked = state (s .last) (put t' (s .active)) (s .entries)
-
     known : find (t' .id) (s .active) ≡ some t
     known = ap (λ (x : Bytes). find x (s .active)) (same ∙ sym (find-id i (s .active) t e)) ∙ e
 
     pub track-full : (L .marks < marks s + m) ⊎ (L .bytes < keyBytes s + b) → track L s i f ≡ refused full
-    track-full w = rw (e, ft, fits-not L tracked (λ g. passes g w))
+    track-full w = rw (e, ft, fits-not L (withTxn t' s) (λ g. passes g w))
       where
-        passes : Fits L tracked → (L .marks < marks s + m) ⊎ (L .bytes < keyBytes s + b) → ⊥
+        passes : Fits L (withTxn t' s) → (L .marks < marks s + m) ⊎ (L .bytes < keyBytes s + b) → ⊥
         passes g (inl a) = omega (arith, g .marks, em, put-known-sum txnMarks t' (s .active) t known (o .distinct))
         passes g (inr a) = omega (arith, g .bytes, eb, put-known-sum txnBytes t' (s .active) t known (o .distinct))
 
-    pub track-done : marks s + m ≤ L .marks → keyBytes s + b ≤ L .bytes → track L s i f ≡ done m tracked
+    pub track-done : marks s + m ≤ L .marks → keyBytes s + b ≤ L .bytes → track L s i f ≡ done m (withTxn t' s)
     track-done hm hb =
-        let g : Fits L tracked =
+        let g : Fits L (withTxn t' s) =
         record {
           active = omega (arith, o .ceilings .active, put-known-length t' (s .active) t known (o .distinct));
           entries = o .ceilings .entries;
@@ -49,26 +47,17 @@ module _ (L : Ceilings) (s : State) (i : Bytes) (f : Txn → Txn) where
           bytes = omega (arith, eb, put-known-sum txnBytes t' (s .active) t known (o .distinct));
         } in
         let v : txnMarks t' - txnMarks t ≡ m = omega (arith, em) in
-        rw (e, ft, fits-means L tracked .1 g, v)
+        rw (e, ft, fits-means L (withTxn t' s) .1 g, v)
 
 -- ---- the forms of the arguments
 
 module _ (L : Ceilings) (s : State) (i bs : Bytes) where
-  pub writes-malformed : ((length i ≡ 16 → ⊥) ⊎ (keyList bs ≡ none)) → answer L s (trackWrites i bs) ≡ refused malformed
+  pub keys-malformed : (w : Which) → ((length i ≡ 16 → ⊥) ⊎ (keyList bs ≡ none)) → answer L s (trackKeys w i bs) ≡ refused malformed
   unfolding answer
-  writes-malformed (inl h) = rw (no-id i h)
-  writes-malformed (inr e) = go (isId i) refl
+  keys-malformed w (inl h) = rw (no-id i h)
+  keys-malformed w (inr e) = go (isId i) refl
     where
-      go : (b : Bool) → isId i ≡ b → answer L s (trackWrites i bs) ≡ refused malformed
-      go true q = rw (q, e)
-      go false q = rw q
-
-  pub reads-malformed : ((length i ≡ 16 → ⊥) ⊎ (keyList bs ≡ none)) → answer L s (trackReads i bs) ≡ refused malformed
-  unfolding answer
-  reads-malformed (inl h) = rw (no-id i h)
-  reads-malformed (inr e) = go (isId i) refl
-    where
-      go : (b : Bool) → isId i ≡ b → answer L s (trackReads i bs) ≡ refused malformed
+      go : (b : Bool) → isId i ≡ b → answer L s (trackKeys w i bs) ≡ refused malformed
       go true q = rw (q, e)
       go false q = rw q
 
@@ -82,13 +71,9 @@ module _ (L : Ceilings) (s : State) (i bs : Bytes) where
       go false q = rw q
 
   module _ (h : length i ≡ 16) where
-    pub writes-long : (ks : List Bytes) → keyList bs ≡ some ks → shortKeys (L .key) ks ≡ false → answer L s (trackWrites i bs) ≡ refused long
+    pub keys-long : (w : Which) (ks : List Bytes) → keyList bs ≡ some ks → shortKeys (L .key) ks ≡ false → answer L s (trackKeys w i bs) ≡ refused long
     unfolding answer
-    writes-long ks e k = rw (is-id i h, e, k)
-
-    pub reads-long : (ks : List Bytes) → keyList bs ≡ some ks → shortKeys (L .key) ks ≡ false → answer L s (trackReads i bs) ≡ refused long
-    unfolding answer
-    reads-long ks e k = rw (is-id i h, e, k)
+    keys-long w ks e k = rw (is-id i h, e, k)
 
     pub range-long : (r : Range) → boundsOf bs ≡ some r → shortRange (L .key) r ≡ false → answer L s (trackRange i bs) ≡ refused long
     unfolding answer
@@ -98,13 +83,9 @@ module _ (L : Ceilings) (s : State) (i bs : Bytes) where
     unfolding answer
     range-empty r e k n = rw (is-id i h, e, k, n)
 
-    pub writes-track : (ks : List Bytes) → keyList bs ≡ some ks → shortKeys (L .key) ks ≡ true → answer L s (trackWrites i bs) ≡ track L s i (addWrites ks)
+    pub keys-track : (w : Which) (ks : List Bytes) → keyList bs ≡ some ks → shortKeys (L .key) ks ≡ true → answer L s (trackKeys w i bs) ≡ track L s i (addKeys w ks)
     unfolding answer
-    writes-track ks e k = rw (is-id i h, e, k)
-
-    pub reads-track : (ks : List Bytes) → keyList bs ≡ some ks → shortKeys (L .key) ks ≡ true → answer L s (trackReads i bs) ≡ track L s i (addReads ks)
-    unfolding answer
-    reads-track ks e k = rw (is-id i h, e, k)
+    keys-track w ks e k = rw (is-id i h, e, k)
 
     pub range-track : (r : Range) → boundsOf bs ≡ some r → shortRange (L .key) r ≡ true → notEmpty r ≡ true → answer L s (trackRange i bs) ≡ track L s i (addRange r)
     unfolding answer

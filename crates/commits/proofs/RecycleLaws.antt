@@ -7,8 +7,9 @@ use lib.ListN.{length}
 use lib.Seq.{paste}
 use Rattle.machine.specs.Lists.{All}
 use Rattle.machine.specs.State.{Txn, Entry, base}
-use Rattle.machine.specs.Sets.{prune}
+use Rattle.machine.specs.Sets.{prune, inReach}
 use Rattle.machine.specs.Serve.{state}
+use Rattle.machine.proofs.EntryLaws.{prune-rule, rule-idle}
 use Rattle.codec.specs.Formats.{number}
 use Rattle.moves.specs.Splices.{Spliced}
 use Rattle.layout.specs.Records.{headForm, entryForm, txnForm}
@@ -24,8 +25,9 @@ use Rattle.answers.proofs.InsideLaws.{laid-pruned}
 use Rattle.commits.specs.Drops.{Unpruned, Prunable, PrunedFor, Recycled}
 
 nobody : (last : ℕ) (s s' : List ℕ) (es : List Entry) (ts : List Txn) → length ts ≡ 0 → Changed s s' (state last [] []) → PrunedFor s last es ts s' 0
-unfolding prune
-nobody last s s' es [] e w = record { changed = w; count = refl }
+nobody last s s' es [] e w =
+    let none : prune [] es ≡ [] = rule-idle inReach prune-rule [] es refl in
+    record { changed = rw none w; count = rw none }
 nobody last s s' es (t ∷ ts) e w = absurd (omega (arith, e))
 
 module _ {s : List ℕ} {last n k middle used : ℕ} (p : Prunable s last n k middle used) where
@@ -42,7 +44,7 @@ module _ {s : List ℕ} {last n k middle used : ℕ} (p : Prunable s last n k mi
       (q .within, (i .0, omega (arith, i .1, q .size)))
 
 least-kept : (last : ℕ) (ts : List Txn) (es : List Entry) → 0 < length ts → All (λ t. t .start ≤ last) ts → keptFrom (lowest last ts) es ≡ prune ts es
-unfolding prune
+unfolding inReach
 least-kept last [] es h a = absurd (omega (arith, h))
 least-kept last (t ∷ ts) es h a = ap (λ (m : ℕ). keptFrom m es) (lowest-least last t ts (a .0))
 

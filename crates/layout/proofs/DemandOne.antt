@@ -9,9 +9,9 @@ use borrow.Author.Tests.{ltb-true, ltb-false, eqb-true}
 use lib.Dec.{ltb, eqb}
 use lib.ListN.{length}
 use Rattle.machine.specs.Lists.{any}
-use Rattle.machine.specs.State.{State, Ceilings}
+use Rattle.machine.specs.State.{State, Ceilings, freshState}
 use Rattle.machine.specs.Calls.{Call, fresh, on, isCommitOrDrop, Room, short, broken, holding, Reply, replied}
-use Rattle.machine.specs.Serve.{state, serve}
+use Rattle.machine.specs.Serve.{serve}
 use Rattle.machine.specs.Words.{First, Status, DoneValue, absentValue, absentState}
 use Rattle.machine.proofs.ListLaws.{any-some}
 use Rattle.machine.proofs.Kept.{refuses}
@@ -99,23 +99,23 @@ module _ (L : Ceilings) (small : Small L) where
 
   -- ---------------------------------------------------------------- a status of the table
 
-  number : (k : ℕ) → any (eqb k) statuses ≡ true → (n : ℕ) → n ≡ k → List·Memᴰ n statuses
-  number k e n p =
+  listed-at : (k : ℕ) → any (eqb k) statuses ≡ true → (n : ℕ) → n ≡ k → List·Memᴰ n statuses
+  listed-at k e n p =
       let m = any-some (eqb k) statuses e in
       subst (λ (x : ℕ). List·Memᴰ x statuses) (sym (eqb-true k (m .0) (m .2)) ∙ sym p) (m .1)
 
   first-listed : (k : ℕ) (P : Type 0) (after : ℕ → Type 0) → any (eqb k) statuses ≡ true → ((n : ℕ) → after n → List·Memᴰ n statuses)
       → (n : ℕ) → First k P after n → List·Memᴰ n statuses
-  first-listed k P after e f n (inl p) = number k e n (p .1)
+  first-listed k P after e f n (inl p) = listed-at k e n (p .1)
   first-listed k P after e f n (inr p) = f n (p .1)
 
   given-listed : (room : List ℕ) (c : Call) (n : ℕ) → Given L room c n → List·Memᴰ n statuses
   unfolding any
-  given-listed room (fresh k) = first-listed 7 _ _ refl (number 0 refl)
+  given-listed room (fresh k) = first-listed 7 _ _ refl (listed-at 0 refl)
   given-listed room (on c) = first-listed 7 _ _ refl λ n o. rows n (o .now) (o .status)
     where
       rows : (n : ℕ) (s : State) → Status L s c n → List·Memᴰ n statuses
-      rows n s = first-listed 2 _ _ refl (first-listed 4 _ _ refl (first-listed 5 _ _ refl (first-listed 3 _ _ refl (first-listed 1 _ _ refl (first-listed 6 _ _ refl (number 0 refl)))))) n
+      rows n s = first-listed 2 _ _ refl (first-listed 4 _ _ refl (first-listed 5 _ _ refl (first-listed 3 _ _ refl (first-listed 1 _ _ refl (first-listed 6 _ _ refl (listed-at 0 refl)))))) n
 
   -- ---------------------------------------------------------------- the value and the room
 
@@ -123,8 +123,8 @@ module _ (L : Ceilings) (small : Small L) where
     is-done : (c : Call) (x : Room) → Reads room x → serve L x c ≡ replied 0 v (load L room') → Done L room c v room'
     unfolding serve
     is-done (fresh n) _ (is-short h) e = absurd (let z : _≡_ {A = ℕ} 7 0 = ap (λ (y : Reply). y .status) e in omega arith)
-    is-done (fresh n) _ (is-broken h b) e = (sym (ap (λ (y : Reply). y .value) e), held-record room' (state n [] []) (sym (ap (λ (y : Reply). y .room) e)))
-    is-done (fresh n) _ (is-held s rest h b) e = (sym (ap (λ (y : Reply). y .value) e), held-record room' (state n [] []) (sym (ap (λ (y : Reply). y .room) e)))
+    is-done (fresh n) _ (is-broken h b) e = (sym (ap (λ (y : Reply). y .value) e), held-record room' (freshState n) (sym (ap (λ (y : Reply). y .room) e)))
+    is-done (fresh n) _ (is-held s rest h b) e = (sym (ap (λ (y : Reply). y .value) e), held-record room' (freshState n) (sym (ap (λ (y : Reply). y .room) e)))
     is-done (on c) _ (is-short h) e = absurd (let z : _≡_ {A = ℕ} 7 0 = ap (λ (y : Reply). y .status) e in omega arith)
     is-done (on c) _ (is-broken h b) e = absurd (let z : _≡_ {A = ℕ} 7 0 = ap (λ (y : Reply). y .status) e in omega arith)
     is-done (on c) _ (is-held s rest h b) e =

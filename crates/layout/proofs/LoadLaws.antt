@@ -9,7 +9,7 @@ use borrow.Author.Tests.{lt-ltb, le-ltb, ltb-false}
 use lib.Dec.{ltb}
 use lib.ListN.{length, drop}
 use Rattle.machine.specs.State.{State, Ceilings, base, MachineState}
-use Rattle.machine.specs.Calls.{Op, Call, fresh, on, isCommitOrDrop, Room, short, broken, holding, Refusal, number, Answer, done, absent, refused, replied, reply}
+use Rattle.machine.specs.Calls.{Op, Call, fresh, on, isCommitOrDrop, Room, short, broken, holding, Refusal, refusalStatus, Answer, done, absent, refused, replied, reply}
 use Rattle.machine.specs.Serve.{state, answer, serve}
 use Rattle.machine.proofs.Kept.{RoomOk, fresh-ok, serve-keeps}
 use Rattle.codec.specs.Codec.{Item, item, cut}
@@ -82,9 +82,9 @@ unfolding serve
 fresh-short s n h = same-room s (fresh n) 7 0 (rw (load-short s h))
 
 module _ (s : List ℕ) (st : State) (c : Op) (h : load base s ≡ holding st) where
-  pub refuse : (r : Refusal) → answer base st c ≡ refused r → Served s (on c) (number r) 0 s
+  pub refuse : (r : Refusal) → answer base st c ≡ refused r → Served s (on c) (refusalStatus r) 0 s
   unfolding serve
-  refuse r e = same-room s (on c) (number r) 0 (rw (h, e))
+  refuse r e = same-room s (on c) (refusalStatus r) 0 (rw (h, e))
 
   pub look : (v : ℕ) → answer base st c ≡ done v st → Served s (on c) 0 v s
   unfolding serve

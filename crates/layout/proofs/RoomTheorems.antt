@@ -5,11 +5,11 @@ use mathlib.Core.List.{List, [], _∷_, map}
 use mathlib.Core.Bool.{Bool, true, false}
 use mathlib.Core.Option.{Option, none, some}
 use native.Mathlib.Omega.{arith}
-use Rattle.machine.specs.State.{Bytes, Txn, Ceilings, base}
+use Rattle.machine.specs.State.{Bytes, Txn, Ceilings, base, freshState}
 use Rattle.machine.specs.Sets.{find, conflict}
 use Rattle.machine.specs.Calls.{Op, Call, fresh, on, check, Room, short, broken, holding, malformed, done, absent, Reply, replied, reply, _>>=_, _>>_, need, given}
-use Rattle.machine.specs.Serve.{state, isId, verdict, answer, serve}
-use Rattle.machine.specs.History.{World, next, run, start, activeOf, Verdict, Lives}
+use Rattle.machine.specs.Serve.{isId, verdict, answer, serve}
+use Rattle.machine.specs.History.{World, afterCall, afterCalls, start, activeOf, SaysConflict, Lives}
 use Rattle.machine.proofs.Record.{demand-3, never-7}
 use Rattle.machine.specs.Rust.{Unrefused, rustRun, manager}
 use Rattle.machine.proofs.Stays.{stays-said}
@@ -55,13 +55,13 @@ module _ (L : Ceilings) where
       go true (some t) q = refl
 
   -- a run of calls on a room goes as the machine goes
-  passed-run : (w : World) (room : List ℕ) (cs : List Call) (room' : List ℕ) → load L room ≡ w .room → Passed L room cs room' → load L room' ≡ run L w cs .room
-  unfolding run
+  passed-run : (w : World) (room : List ℕ) (cs : List Call) (room' : List ℕ) → load L room ≡ w .room → Passed L room cs room' → load L room' ≡ afterCalls L w cs .room
+  unfolding afterCalls
   passed-run w room [] room' e p = same-front L room' room p ∙ e
   passed-run w room (c ∷ cs) room' e p =
       let g : load L (p .lent) ≡ w .room = same-front L (p .lent) room (p .same) ∙ e in
       let f : load L (p .left) ≡ serve L (w .room) c .room = sym (ap (λ (x : Reply). x .room) (p .served .answers)) ∙ ap (λ (x : Room). serve L x c .room) g in
-      passed-run (next L w c) (p .left) cs room' f (p .rest)
+      passed-run (afterCall L w c) (p .left) cs room' f (p .rest)
 
   -- a room that fresh answered 0
   module _ (old : List ℕ) (n v : ℕ) (made : List ℕ) (f : ServedBy L old (fresh n) 0 v made) (cs : List Call) (room : List ℕ) (p : Passed L made cs room) where
@@ -69,41 +69,41 @@ module _ (L : Ceilings) where
     unfolding serve
     fresh-holds = go (load L old) (f .answers)
       where
-        go : (x : Room) → serve L x (fresh n) ≡ replied 0 v (load L made) → load L made ≡ holding (state n [] [])
+        go : (x : Room) → serve L x (fresh n) ≡ replied 0 v (load L made) → load L made ≡ holding (freshState n)
         go short e = absurd (let z : _≡_ {A = ℕ} 7 0 = ap (λ (y : Reply). y .status) e in omega arith)
         go broken e = sym (ap (λ (y : Reply). y .room) e)
         go (holding s) e = sym (ap (λ (y : Reply). y .room) e)
 
-    holds-run : load L room ≡ run L (start n) cs .room
+    holds-run : load L room ≡ afterCalls L (start n) cs .room
     holds-run = passed-run (start n) made cs room fresh-holds p
 
     -- "A room made fresh, written only by the calls and passed whole never gets 7."
     pub room-never-7 : (c : Call) (s u : ℕ) (after : List ℕ) → ServedBy L room c s u after → s ≡ 7 → ⊥
     room-never-7 c s u after a =
-        let e : serve L (run L (start n) cs .room) c .status ≡ s = ap (λ (x : Room). serve L x c .status) (sym holds-run) ∙ ap (λ (x : Reply). x .status) (a .answers) in
+        let e : serve L (afterCalls L (start n) cs .room) c .status ≡ s = ap (λ (x : Room). serve L x c .status) (sym holds-run) ∙ ap (λ (x : Reply). x .status) (a .answers) in
         λ q. never-7 L n cs c (e ∙ q)
 
     -- demand 3: a check of an active transaction says conflict exactly when the full record says so
     pub room-demand-3 : (i : Bytes) (t : Txn) (s u : ℕ) (after : List ℕ) → find i (activeOf (load L room)) ≡ some t → ServedBy L room (on (check i)) s u after
-        → Verdict t (run L (start n) cs .history) (replied s u (load L after))
+        → SaysConflict t (afterCalls L (start n) cs .history) (replied s u (load L after))
     room-demand-3 i t s u after e a =
-        subst (Verdict t (run L (start n) cs .history))
+        subst (SaysConflict t (afterCalls L (start n) cs .history))
         (ap (λ (x : Room). serve L x (on (check i))) (sym holds-run) ∙ a .answers)
         (demand-3 L n cs i t (subst (λ (x : Room). find i (activeOf x) ≡ some t) holds-run e))
 
     -- "Once said, it stays said until that transaction commits or is dropped, or the room is made fresh again."
     pub room-stays-said : (i : Bytes) (t : Txn) (s : ℕ) (after : List ℕ) → find i (activeOf (load L room)) ≡ some t → ServedBy L room (on (check i)) s 1 after
-        → (ds : List Call) (later : List ℕ) → Passed L room ds later → Lives L i (run L (start n) cs) ds
+        → (ds : List Call) (later : List ℕ) → Passed L room ds later → Lives L i (afterCalls L (start n) cs) ds
         → (s' u' : ℕ) (after' : List ℕ) → ServedBy L later (on (check i)) s' u' after' → (s' ≡ 0) × (u' ≡ 1)
     room-stays-said i t s after e a ds later q lives s' u' after' b =
-        let one : serve L (run L (start n) cs .room) (on (check i)) .value ≡ 1 = ap (λ (x : Room). serve L x (on (check i)) .value) (sym holds-run) ∙ ap (λ (x : Reply). x .value) (a .answers) in
+        let one : serve L (afterCalls L (start n) cs .room) (on (check i)) .value ≡ 1 = ap (λ (x : Room). serve L x (on (check i)) .value) (sym holds-run) ∙ ap (λ (x : Reply). x .value) (a .answers) in
         let still = stays-said L n cs ds i t (subst (λ (x : Room). find i (activeOf x) ≡ some t) holds-run e) one lives in
-        let h : load L later ≡ run L (run L (start n) cs) ds .room = passed-run (run L (start n) cs) room ds later holds-run q in
+        let h : load L later ≡ afterCalls L (afterCalls L (start n) cs) ds .room = passed-run (afterCalls L (start n) cs) room ds later holds-run q in
         let one' : serve L (load L later) (on (check i)) .value ≡ 1 = ap (λ (x : Room). serve L x (on (check i)) .value) h ∙ still in
         (sym (ap (λ (x : Reply). x .status) (b .answers)) ∙ one-done (load L later) i one', sym (ap (λ (x : Reply). x .value) (b .answers)) ∙ one')
 
   -- demand 2: "While no call has answered 2 to 7", the room holds what the Rust's manager does
-  pub room-demand-2 : (old : List ℕ) (n v : ℕ) (made : List ℕ) → ServedBy L old (fresh n) 0 v made → (cs : List Op) (room : List ℕ) → Passed L made (map on cs) room → Unrefused L (holding (state n [] [])) cs
+  pub room-demand-2 : (old : List ℕ) (n v : ℕ) (made : List ℕ) → ServedBy L old (fresh n) 0 v made → (cs : List Op) (room : List ℕ) → Passed L made (map on cs) room → Unrefused L (holding (freshState n)) cs
       → Equals L (rustRun (manager [] [] n) cs) (load L room)
   room-demand-2 old n v made f cs room p u = subst (Equals L (rustRun (manager [] [] n) cs)) (sym (holds-run old n v made f (map on cs) room p)) (demand-2 L n cs u)
 

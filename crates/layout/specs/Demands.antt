@@ -5,9 +5,8 @@ use mathlib.Core.Bool.{false}
 use mathlib.Core.List.{List, [], _∷_, _++_, List·Memᴰ}
 use mathlib.Core.Logic.{_↔_, _⊎_}
 use lib.ListN.{length, drop}
-use Rattle.machine.specs.State.{State, Ceilings, MachineState}
+use Rattle.machine.specs.State.{State, Ceilings, freshState, MachineState}
 use Rattle.machine.specs.Calls.{Op, Call, fresh, on, isCommitOrDrop}
-use Rattle.machine.specs.Serve.{state}
 use Rattle.machine.specs.Words.{First, Status, DoneValue, absentValue, absentState}
 use Rattle.layout.specs.States.{plainForm, roomSize}
 
@@ -46,7 +45,7 @@ pub record DoneOn (L : Ceilings) (room : List ℕ) (c : Op) (value : ℕ) (room'
 
 -- the value of 0, and a room that records a machine state again; "fresh: given number"
 abbrev pub Done : Ceilings → List ℕ → Call → ℕ → List ℕ → Type 0
-Done L room (fresh n) value room' = (value ≡ n) × RecordOf L room' (state n [] [])
+Done L room (fresh n) value room' = (value ≡ n) × RecordOf L room' (freshState n)
 Done L room (on c) value room' = DoneOn L room c value room'
 
 pub record AbsentOn (L : Ceilings) (room : List ℕ) (c : Op) (value : ℕ) (room' : List ℕ) : Type 0 where

@@ -8,39 +8,25 @@ use lib.ListN.{length}
 use Rattle.bounds.specs.Ranges.{Range, notEmpty}
 use Rattle.fields.specs.Fields.{keyList, boundsOf}
 use Rattle.fields.specs.Forms.{shortKeys}
-use Rattle.machine.specs.State.{Bytes, Txn, State, Ceilings, txnMarks, fits}
-use Rattle.machine.specs.Sets.{insertAll, find, without, least, prune, append, conflict}
-use Rattle.machine.specs.Calls.{Op, begin, trackWrites, trackReads, trackRange, check, commit, batch, dropTxn, minimum, Refusal, malformed, again, long, empty, full, Answer, done, absent, refused, _>>=_, _>>_, need, given}
-use Rattle.machine.specs.Serve.{state, entry, isId, isNew, shortRange, verdict, newTxn, addWrites, addReads, addRange, settle, answer}
-use Rattle.machine.specs.Table.{tracking}
+use Rattle.machine.specs.declared.Which.{Which}
+use Rattle.machine.specs.State.{Bytes, Txn, State, Ceilings, advanced, txnMarks, fits}
+use Rattle.machine.specs.Sets.{insertAll, find, without, least, conflict}
+use Rattle.machine.specs.Calls.{Op, begin, trackKeys, trackRange, check, commit, batch, dropTxn, minimum, Refusal, malformed, again, long, empty, full, Answer, done, absent, refused, _>>=_, _>>_, need, given}
+use Rattle.machine.specs.Serve.{isId, isNew, shortRange, verdict, addKeys, addRange, withTxn, begun, entered, dropped, settle, answer}
 use Rattle.machine.specs.History.{written}
-
--- the state after a begin, after a commit or a batch with `left` active, and after a drop
-abbrev pub begun : State → Bytes → State
-begun s i = tracking s (newTxn i (s .last))
-
-abbrev pub joined : State → List Txn → ℕ → List Bytes → State
-joined s left n ks = state (max (s .last) n) left (append left (s .entries) (entry n ks))
-
-abbrev pub dropped : State → Bytes → State
-dropped s i = state (s .last) (without i (s .active)) (prune (without i (s .active)) (s .entries))
 
 -- what a call makes of the transaction with this id, if it tracks
 pub data Adds (L : Ceilings) (i : Bytes) (t : Txn) : Op → Txn → Type 0 where
-  adds-writes :
-      (bs : Bytes) (ks : List Bytes) → keyList bs ≡ some ks → shortKeys (L .key) ks ≡ true
-      → Adds L i t (trackWrites i bs) (addWrites ks t)
-  adds-reads :
-      (bs : Bytes) (ks : List Bytes) → keyList bs ≡ some ks → shortKeys (L .key) ks ≡ true
-      → Adds L i t (trackReads i bs) (addReads ks t)
+  adds-keys :
+      (w : Which) (bs : Bytes) (ks : List Bytes) → keyList bs ≡ some ks → shortKeys (L .key) ks ≡ true
+      → Adds L i t (trackKeys w i bs) (addKeys w ks t)
   adds-range :
       (bs : Bytes) (r : Range) → boundsOf bs ≡ some r → shortRange (L .key) r ≡ true → notEmpty r ≡ true
       → Adds L i t (trackRange i bs) (addRange r t)
 
 -- the calls that do nothing but miss, if nobody active has this id
 pub data Seeks (i : Bytes) : Op → Type 0 where
-  seeks-writes : (bs : Bytes) → Seeks i (trackWrites i bs)
-  seeks-reads : (bs : Bytes) → Seeks i (trackReads i bs)
+  seeks-keys : (w : Which) (bs : Bytes) → Seeks i (trackKeys w i bs)
   seeks-range : (bs : Bytes) → Seeks i (trackRange i bs)
   seeks-check : Seeks i (check i)
 
@@ -51,29 +37,29 @@ pub data Effect (L : Ceilings) (s : State) : Op → Answer → Type 0 where
   nobody : least (s .active) ≡ none → Effect L s minimum (absent 0 s)
   advances :
       (i : Bytes) (n : ℕ) → find i (s .active) ≡ none
-      → Effect L s (commit i n) (absent (max (s .last) n) (state (max (s .last) n) (s .active) (s .entries)))
+      → Effect L s (commit i n) (absent (max (s .last) n) (advanced n s))
   prunes :
-      (i : Bytes) (u : State) → u ≡ dropped s i → find i (s .active) ≡ none
+      (i : Bytes) (u : State) → u ≡ dropped i s → find i (s .active) ≡ none
       → Effect L s (dropTxn i) (absent (length (u .entries)) u)
   checks :
       (i : Bytes) (t : Txn) → find i (s .active) ≡ some t
       → Effect L s (check i) (done (verdict (conflict t (s .entries))) s)
   sees-least : (m : ℕ) → least (s .active) ≡ some m → Effect L s minimum (done m s)
   begins :
-      (i : Bytes) (u : State) → u ≡ begun s i → isId i ≡ true → find i (s .active) ≡ none → fits L u ≡ true
+      (i : Bytes) (u : State) → u ≡ begun i s → isId i ≡ true → find i (s .active) ≡ none → fits L u ≡ true
       → Effect L s (begin i) (done (s .last) u)
   tracks :
-      {c : Op} (i : Bytes) (t t' : Txn) (u : State) → written s c ≡ [] → u ≡ tracking s t' → find i (s .active) ≡ some t
+      {c : Op} (i : Bytes) (t t' : Txn) (u : State) → written s c ≡ [] → u ≡ withTxn t' s → find i (s .active) ≡ some t
       → Adds L i t c t' → fits L u ≡ true → Effect L s c (done (txnMarks t' - txnMarks t) u)
   commits :
-      (i : Bytes) (n : ℕ) (t : Txn) (u : State) → u ≡ joined s (without i (s .active)) n (t .writes)
+      (i : Bytes) (n : ℕ) (t : Txn) (u : State) → u ≡ entered (without i (s .active)) n (t .writes) s
       → find i (s .active) ≡ some t → fits L u ≡ true → Effect L s (commit i n) (done (max (s .last) n) u)
   batches :
-      (n : ℕ) (bs : Bytes) (ks : List Bytes) (u : State) → u ≡ joined s (s .active) n (insertAll ks [])
+      (n : ℕ) (bs : Bytes) (ks : List Bytes) (u : State) → u ≡ entered (s .active) n (insertAll ks []) s
       → keyList bs ≡ some ks → shortKeys (L .key) ks ≡ true → fits L u ≡ true
       → Effect L s (batch n bs) (done (max (s .last) n) u)
   drops :
-      (i : Bytes) (t : Txn) (u : State) → u ≡ dropped s i → find i (s .active) ≡ some t
+      (i : Bytes) (t : Txn) (u : State) → u ≡ dropped i s → find i (s .active) ≡ some t
       → Effect L s (dropTxn i) (done (length (u .entries)) u)
 
 -- ---------------------------------------------------------------- each call has one of these outcomes
@@ -102,20 +88,13 @@ effect L s (begin i) =
     on-need (isNew (find i (s .active))) again _ λ f.
     on-settle _ _ λ g.
     begins i _ refl e (is-new _ f) g
-effect L s (trackWrites i bs) =
+effect L s (trackKeys w i bs) =
     on-need (isId i) malformed _ λ e.
     on-given (keyList bs) _ _ (λ z. refuses malformed) λ ks f.
     on-need (shortKeys (L .key) ks) long _ λ g.
-    on-given (find i (s .active)) _ _ (misses i (seeks-writes bs)) λ t h.
+    on-given (find i (s .active)) _ _ (misses i (seeks-keys w bs)) λ t h.
     on-settle _ _ λ k.
-    tracks i t (addWrites ks t) _ refl refl h (adds-writes bs ks f g) k
-effect L s (trackReads i bs) =
-    on-need (isId i) malformed _ λ e.
-    on-given (keyList bs) _ _ (λ z. refuses malformed) λ ks f.
-    on-need (shortKeys (L .key) ks) long _ λ g.
-    on-given (find i (s .active)) _ _ (misses i (seeks-reads bs)) λ t h.
-    on-settle _ _ λ k.
-    tracks i t (addReads ks t) _ refl refl h (adds-reads bs ks f g) k
+    tracks i t (addKeys w ks t) _ refl refl h (adds-keys w bs ks f g) k
 effect L s (trackRange i bs) =
     on-need (isId i) malformed _ λ e.
     on-given (boundsOf bs) _ _ (λ z. refuses malformed) λ r f.

@@ -1,38 +1,52 @@
--- Laws of the entries: what pruning and a new entry leave of what holds of all, and of the totals.
-use Prim.Native.Nat.{ℕ, _≤_}
-use mathlib.Core.Path.{_≡_}
-use mathlib.Core.List.{List, [], _∷_}
+-- What a rule for leaving the list of entries must keep to, and that pruning and emptying do: where nobody is active all leave, and
+-- what someone active sees stays.
+use Prim.Native.Nat.{ℕ, suc, _+_, _<_}
+use mathlib.Core.Path.{_≡_, refl, ap, _∙_}
+use mathlib.Core.Bool.{Bool, true, false}
+use mathlib.Core.List.{List, [], _∷_, _++_, List·Memᴰ, List·Memᴰ·not-nil}
 use native.Mathlib.Omega.{arith}
-use lib.ListN.{length}
-use Rattle.machine.specs.Lists.{sum, All}
+use lib.ListN.{length, length-append}
+use borrow.Author.Tests.{le-leb}
+use Rattle.machine.specs.Lists.{keep, sum}
 use Rattle.machine.specs.State.{Txn, Entry}
-use Rattle.machine.specs.Sets.{prune, append}
-use Rattle.machine.proofs.ListLaws.{all-append, keep-all, keep-sum, keep-length}
+use Rattle.machine.specs.Sets.{leastOf, inReach, anyActive}
+use Rattle.machine.proofs.Minimum.{least-is}
+use Rattle.machine.proofs.ListLaws.{all-from, keep-none, keep-whole, sum-append}
 
-pub prune-all : (P : Entry → Type 0) (ts : List Txn) (es : List Entry) → All P es → All P (prune ts es)
-unfolding prune
-prune-all P [] es a = tt
-prune-all P (t ∷ ts) es a = keep-all P _ es a
+pub record Rule (stays : List Txn → Entry → Bool) : Type 0 where
+  pub idle : (e : Entry) → stays [] e ≡ false
+  pub spares : (ts : List Txn) (t : Txn) → List·Memᴰ t ts → (e : Entry) → t .start < e .seq → stays ts e ≡ true
 
-pub prune-idle : (ts : List Txn) (es : List Entry) → ts ≡ [] → prune ts es ≡ []
-unfolding prune
-prune-idle ts es h = rw h
+pub prune-rule : Rule inReach
+unfolding inReach
+prune-rule = record { idle = λ e. refl; spares = spares }
+  where
+    spares : (ts : List Txn) (t : Txn) → List·Memᴰ t ts → (e : Entry) → t .start < e .seq → inReach ts e ≡ true
+    spares [] t m e h = absurd (List·Memᴰ·not-nil m)
+    spares (u ∷ us) t m e h = le-leb (leastOf u us) (e .seq) (omega (arith, h, least-is u us .below t m))
 
-pub prune-sum : (f : Entry → ℕ) (ts : List Txn) (es : List Entry) → sum f (prune ts es) ≤ sum f es
-unfolding prune sum
-prune-sum f [] es = omega arith
-prune-sum f (t ∷ ts) es = keep-sum f _ es
+pub empty-rule : Rule anyActive
+unfolding anyActive
+empty-rule = record { idle = λ e. refl; spares = spares }
+  where
+    spares : (ts : List Txn) (t : Txn) → List·Memᴰ t ts → (e : Entry) → t .start < e .seq → anyActive ts e ≡ true
+    spares [] t m e h = absurd (List·Memᴰ·not-nil m)
+    spares (u ∷ us) t m e h = refl
 
-pub prune-length : (ts : List Txn) (es : List Entry) → length (prune ts es) ≤ length es
-unfolding prune
-prune-length [] es = omega arith
-prune-length (t ∷ ts) es = keep-length _ es
+pub rule-idle : (stays : List Txn → Entry → Bool) → Rule stays → (ts : List Txn) (es : List Entry) → ts ≡ [] → keep (stays ts) es ≡ []
+rule-idle stays r ts es h = ap (λ us. keep (stays us) es) h ∙ keep-none (stays []) es (all-from _ es λ e m. r .idle e)
 
-pub append-all : (P : Entry → Type 0) (ts : List Txn) (es : List Entry) (e : Entry) → All P es → P e → All P (append ts es e)
-unfolding append
-append-all P [] es e a p = tt
-append-all P (t ∷ ts) es e a p = all-append P es (e ∷ []) a (p, tt)
+-- with someone active nothing is emptied
+pub anyone-keeps : (ts : List Txn) (es : List Entry) → (ts ≡ [] → ⊥) → keep (anyActive ts) es ≡ es
+unfolding anyActive
+anyone-keeps [] es h = absurd (h refl)
+anyone-keeps (t ∷ ts) es h = keep-whole (anyActive (t ∷ ts)) es (all-from _ es λ e m. refl)
 
-pub append-idle : (ts : List Txn) (es : List Entry) (e : Entry) → ts ≡ [] → append ts es e ≡ []
-unfolding append
-append-idle ts es e h = rw h
+pub entry-sum : (f : Entry → ℕ) (ts : List Txn) (es : List Entry) (e : Entry) → (ts ≡ [] → ⊥)
+    → sum f (keep (anyActive ts) (es ++ (e ∷ []))) ≡ sum f es + f e
+unfolding sum
+entry-sum f ts es e h = ap (sum f) (anyone-keeps ts (es ++ (e ∷ [])) h) ∙ sum-append f es (e ∷ []) ∙ (omega arith)
+
+pub entry-length : (ts : List Txn) (es : List Entry) (e : Entry) → (ts ≡ [] → ⊥)
+    → length (keep (anyActive ts) (es ++ (e ∷ []))) ≡ suc (length es)
+entry-length ts es e h = ap (length {A = Entry}) (anyone-keeps ts (es ++ (e ∷ [])) h) ∙ length-append es (e ∷ []) ∙ (omega arith)

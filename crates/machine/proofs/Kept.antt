@@ -13,17 +13,18 @@ use Rattle.bounds.specs.Ranges.{Range, notEmpty}
 use Rattle.ranges.specs.Made.{keyOf}
 use Rattle.fields.specs.Forms.{shortKeys}
 use Rattle.machine.specs.Lists.{sum, All}
-use Rattle.machine.specs.State.{Bytes, Txn, Entry, State, Ceilings, txnMarks, txnBytes, entryMarks, entryBytes, marks, keyBytes, fits, Fits, Ascends, ids, SetOk, RangeOk, TxnOk, EntryOk, MachineState}
-use Rattle.machine.specs.Sets.{equal, insertAll, find, without}
-use Rattle.machine.specs.Calls.{Op, Call, fresh, on, Room, short, broken, holding, Refusal, malformed, again, long, empty, full, number, Answer, done, absent, refused, reply}
-use Rattle.machine.specs.Serve.{state, isId, shortRange, newTxn, answer, serve}
-use Rattle.machine.specs.Table.{tracking}
-use Rattle.machine.proofs.ListLaws.{all-map, all-append, all-of, keep-sum, keep-length}
+use Rattle.machine.specs.declared.Which.{Which}
+use Rattle.machine.specs.declared.Which.the-variants.{Writes, Reads}
+use Rattle.machine.specs.State.{Bytes, Txn, Entry, State, Ceilings, newTxn, freshState, advanced, txnMarks, txnBytes, entryMarks, entryBytes, marks, keyBytes, fits, Fits, Ascends, ids, SetOk, RangeOk, TxnOk, EntryOk, MachineState}
+use Rattle.machine.specs.Sets.{equal, insertAll, find, without, inReach, anyActive}
+use Rattle.machine.specs.Calls.{Op, Call, fresh, on, Room, short, broken, holding, Refusal, malformed, again, long, empty, full, refusalStatus, Answer, done, absent, refused, reply}
+use Rattle.machine.specs.Serve.{isId, shortRange, addKeys, withTxn, entered, dropped, answer, serve}
+use Rattle.machine.proofs.ListLaws.{all-map, all-append, all-of, keep-all, keep-sum, keep-length}
 use Rattle.machine.proofs.SetLaws.{insertAll-ascends, insertAll-all}
 use Rattle.machine.proofs.ActiveLaws.{find-holds, put-ascends, put-all, put-some, without-ascends, without-all}
-use Rattle.machine.proofs.EntryLaws.{prune-all, prune-idle, prune-sum, prune-length, append-all, append-idle}
+use Rattle.machine.proofs.EntryLaws.{prune-rule, empty-rule, rule-idle}
 use Rattle.machine.proofs.Effects as E
-use Rattle.machine.proofs.Effects.{joined, dropped, Adds, Effect, effect}
+use Rattle.machine.proofs.Effects.{Adds, Effect, effect}
 
 -- ---------------------------------------------------------------- ceilings
 
@@ -46,16 +47,16 @@ fits-means L s = (out, λ f. rw (le-leb _ _ (f .active), le-leb _ _ (f .entries)
           bytes = leb-true _ _ (abc .1);
         }
 
-drop-fits : (L : Ceilings) (s : State) (i : Bytes) → Fits L s → Fits L (dropped s i)
+drop-fits : (L : Ceilings) (s : State) (i : Bytes) → Fits L s → Fits L (dropped i s)
 unfolding without
 drop-fits L s i f =
     let others : Txn → Bool = λ u. not (equal i (u .id)) in
-    let left = without i (s .active) in
+    let reached = inReach (without i (s .active)) in
     record {
       active = omega (arith, f .active, keep-length others (s .active));
-      entries = omega (arith, f .entries, prune-length left (s .entries));
-      marks = omega (arith, f .marks, keep-sum txnMarks others (s .active), prune-sum entryMarks left (s .entries));
-      bytes = omega (arith, f .bytes, keep-sum txnBytes others (s .active), prune-sum entryBytes left (s .entries));
+      entries = omega (arith, f .entries, keep-length reached (s .entries));
+      marks = omega (arith, f .marks, keep-sum txnMarks others (s .active), keep-sum entryMarks reached (s .entries));
+      bytes = omega (arith, f .bytes, keep-sum txnBytes others (s .active), keep-sum entryBytes reached (s .entries));
     }
 
 -- ---------------------------------------------------------------- sets, transactions, entries
@@ -87,22 +88,25 @@ module _ (L : Ceilings) where
   new-ok n i h = record { id-length = eqb-true _ _ h; started = omega arith; writes = no-keys; reads = no-keys; ranges = tt }
 
   adds-ok : (n : ℕ) (i : Bytes) (t : Txn) (c : Op) (t' : Txn) → Adds L i t c t' → TxnOk L n t → TxnOk L n t'
-  adds-ok n i t _ _ (E.adds-writes bs ks e h) ok =
-      record {
-        id-length = ok .id-length;
-        started = ok .started;
-        writes = insertAll-ok ks _ h (ok .writes);
-        reads = ok .reads;
-        ranges = ok .ranges;
-      }
-  adds-ok n i t _ _ (E.adds-reads bs ks e h) ok =
-      record {
-        id-length = ok .id-length;
-        started = ok .started;
-        writes = ok .writes;
-        reads = insertAll-ok ks _ h (ok .reads);
-        ranges = ok .ranges;
-      }
+  adds-ok n i t _ _ (E.adds-keys w bs ks e h) ok = grown w
+    where
+      grown : (w : Which) → TxnOk L n (addKeys w ks t)
+      grown Writes =
+          record {
+            id-length = ok .id-length;
+            started = ok .started;
+            writes = insertAll-ok ks _ h (ok .writes);
+            reads = ok .reads;
+            ranges = ok .ranges;
+          }
+      grown Reads =
+          record {
+            id-length = ok .id-length;
+            started = ok .started;
+            writes = ok .writes;
+            reads = insertAll-ok ks _ h (ok .reads);
+            ranges = ok .ranges;
+          }
   adds-ok n i t _ _ (E.adds-range bs r e h k) ok =
       record {
         id-length = ok .id-length;
@@ -123,32 +127,46 @@ module _ (L : Ceilings) where
 -- ---------------------------------------------------------------- machine states
 
 module _ (L : Ceilings) (s : State) (ok : MachineState L s) where
-  at-state : (u : State) (n : ℕ) (ts : List Txn) (es : List Entry) → u ≡ state n ts es → Fits L u → Ascends (ids ts)
-      → All (TxnOk L n) ts → All (EntryOk L n) es → (ts ≡ [] → es ≡ []) → MachineState L u
-  at-state u n ts es e f a b c d = rw e (record { ceilings = rw e at f; distinct = a; txns = b; entries = c; idle = d })
-
   found-ok : (i : Bytes) (t : Txn) → find i (s .active) ≡ some t → TxnOk L (s .last) t
   found-ok i t e = all-of _ (s .active) t (find-holds i (s .active) t e) (ok .txns)
 
-  put-ok : (t : Txn) (u : State) → u ≡ tracking s t → fits L u ≡ true → TxnOk L (s .last) t → MachineState L u
+  put-ok : (t : Txn) (u : State) → u ≡ withTxn t s → fits L u ≡ true → TxnOk L (s .last) t → MachineState L u
   put-ok t u e f p =
-      at-state u _ _ _ e (fits-means L u .0 f) (put-ascends t _ (ok .distinct)) (put-all _ t _ p (ok .txns)) (ok .entries)
-      λ z. absurd (put-some _ _ z)
+      rw e
+      (record {
+        ceilings = rw e at (fits-means L u .0 f);
+        distinct = put-ascends t _ (ok .distinct);
+        txns = put-all _ t _ p (ok .txns);
+        entries = ok .entries;
+        idle = λ z. absurd (put-some _ _ z);
+      })
 
-  joined-ok : (left : List Txn) (n : ℕ) (ks : List Bytes) (u : State) → u ≡ joined s left n ks → fits L u ≡ true
+  joined-ok : (left : List Txn) (n : ℕ) (ks : List Bytes) (u : State) → u ≡ entered left n ks s → fits L u ≡ true
       → Ascends (ids left) → All (TxnOk L (s .last)) left → SetOk L ks → MachineState L u
   joined-ok left n ks u e f a b c =
-      at-state u _ _ _ e (fits-means L u .0 f) a (all-map _ _ (txn-later L (s .last) n) left b)
-      (append-all _ left _ _ (all-map _ _ (entry-later L (s .last) n) (s .entries) (ok .entries))
-      (record { committed = omega arith; keys = c }))
-      (append-idle _ _ _)
+      let before = all-map _ _ (entry-later L (s .last) n) (s .entries) (ok .entries) in
+      rw e
+      (record {
+        ceilings = rw e at (fits-means L u .0 f);
+        distinct = a;
+        txns = all-map _ _ (txn-later L (s .last) n) left b;
+        entries = keep-all _ (anyActive left) _ (all-append _ (s .entries) _ before (record { committed = omega arith; keys = c }, tt));
+        idle = rule-idle anyActive empty-rule left _;
+      })
 
-  dropped-ok : (i : Bytes) (u : State) → u ≡ dropped s i → MachineState L u
+  dropped-ok : (i : Bytes) (u : State) → u ≡ dropped i s → MachineState L u
   dropped-ok i u e =
-      at-state u _ _ _ e (rw e (drop-fits L s i (ok .ceilings))) (without-ascends i _ (ok .distinct))
-      (without-all i _ _ (ok .txns)) (prune-all _ _ _ (ok .entries)) (prune-idle _ _)
+      let left = without i (s .active) in
+      rw e
+      (record {
+        ceilings = drop-fits L s i (ok .ceilings);
+        distinct = without-ascends i _ (ok .distinct);
+        txns = without-all i _ _ (ok .txns);
+        entries = keep-all _ (inReach left) (s .entries) (ok .entries);
+        idle = rule-idle inReach prune-rule left (s .entries);
+      })
 
-  advanced-ok : (n : ℕ) → MachineState L (state (max (s .last) n) (s .active) (s .entries))
+  advanced-ok : (n : ℕ) → MachineState L (advanced n s)
   advanced-ok n =
       let f = ok .ceilings in
       record {
@@ -193,7 +211,7 @@ reply-ok L s (done v u) p q = q
 reply-ok L s (absent v u) p q = q
 reply-ok L s (refused r) p q = p
 
-pub fresh-ok : (L : Ceilings) (n : ℕ) → MachineState L (state n [] [])
+pub fresh-ok : (L : Ceilings) (n : ℕ) → MachineState L (freshState n)
 unfolding sum
 fresh-ok L n =
     record {
@@ -229,8 +247,8 @@ refuses L (holding s) (on c) h = of-answer (answer L s c) h
     of-answer (absent v u) k = absurd (omega arith)
     of-answer (refused r) k = (refl, refl)
 
--- a refusal's number is neither 0, 1 nor 7
-pub refusal-number : (r : Refusal) → (2 ≤ number r) × (number r ≡ 7 → ⊥)
+-- a refusal's status is neither 0, 1 nor 7
+pub refusal-number : (r : Refusal) → (2 ≤ refusalStatus r) × (refusalStatus r ≡ 7 → ⊥)
 refusal-number malformed = (omega arith, λ e. omega (arith, e))
 refusal-number again = (omega arith, λ e. omega (arith, e))
 refusal-number long = (omega arith, λ e. omega (arith, e))

@@ -12,13 +12,16 @@ use lib.ListN.{length}
 use Rattle.keys.specs.Order.{order, isSame}
 use Rattle.fields.specs.Fields.{keyList}
 use Rattle.fields.specs.Forms.{shortKeys}
+use Rattle.machine.specs.declared.Which.{Which}
+use Rattle.machine.specs.declared.Which.the-variants.{Writes, Reads}
 use Rattle.machine.specs.Lists.{All}
-use Rattle.machine.specs.State.{Bytes, Txn, State, Ceilings, MachineState, TxnOk, SetOk, Ascends, ids, txnMarks}
-use Rattle.machine.specs.Sets.{stands, put, find}
-use Rattle.machine.specs.Calls.{trackWrites, trackReads, on, holding, done, replied}
-use Rattle.machine.specs.Serve.{addWrites, addReads, track, answer, serve}
+use Rattle.machine.specs.State.{Bytes, Txn, State, Ceilings, setOf, MachineState, TxnOk, SetOk, Ascends, ids, txnMarks}
+use Rattle.machine.specs.Sets.{stands, insertAll, put, find}
+use Rattle.machine.specs.Calls.{trackKeys, on, holding, done, replied}
+use Rattle.machine.specs.Serve.{addKeys, track, answer, serve}
 use Rattle.machine.proofs.ListLaws.{all-map, all-of}
 use Rattle.machine.proofs.SetLaws.{above-ascends, insertAll-known}
+use Rattle.machine.proofs.WhichLaws.{set-same}
 use Rattle.machine.proofs.ActiveLaws.{find-id, find-holds, put-known-length}
 use Rattle.machine.proofs.Kept.{fits-means}
 
@@ -53,35 +56,16 @@ module _ (L : Ceilings) (s : State) (ok : MachineState L s) (i : Bytes) (t : Txn
       let found = ap (λ j. find j (s .active)) (sym (find-id i (s .active) t e)) ∙ e in
       rw (e, h, put-same t (s .active) found (ok .distinct), fits-means L s .1 (ok .ceilings), sub-self (txnMarks t))
 
--- what comes back, the room unchanged
-pub record KnownKeys (L : Ceilings) (s : State) (i bs : Bytes) (t : Txn) (ks : List Bytes) : Type 0 where
-  pub written :
-      All (λ k. List·Memᴰ k (t .writes)) ks → serve L (holding s) (on (trackWrites i bs)) ≡ replied 0 0 (holding s)
-  pub read : All (λ k. List·Memᴰ k (t .reads)) ks → serve L (holding s) (on (trackReads i bs)) ≡ replied 0 0 (holding s)
+-- both sets of a transaction are in order
+its-set : (L : Ceilings) (n : ℕ) (t : Txn) (w : Which) → TxnOk L n t → SetOk L (setOf w t)
+its-set L n t Writes o = o .writes
+its-set L n t Reads o = o .reads
 
-pub known-keys : (L : Ceilings) (s : State) (i bs : Bytes) (t : Txn) (ks : List Bytes) → MachineState L s → length i ≡ 16
-    → find i (s .active) ≡ some t → keyList bs ≡ some ks → KnownKeys L s i bs t ks
+pub known-keys : (L : Ceilings) (s : State) (w : Which) (i bs : Bytes) (t : Txn) (ks : List Bytes) → MachineState L s → length i ≡ 16
+    → find i (s .active) ≡ some t → keyList bs ≡ some ks → All (λ k. List·Memᴰ k (setOf w t)) ks
+    → serve L (holding s) (on (trackKeys w i bs)) ≡ replied 0 0 (holding s)
 unfolding serve answer
-known-keys L s i bs t ks ok d e g =
-    let own = all-of (TxnOk L (s .last)) (s .active) t (find-holds i (s .active) t e) (ok .txns) in
-    let formed = eq-eqb (length i) 16 d in
-    record {
-      written = λ a.
-          let same = insertAll-known ks (t .writes) a (own .writes .once) in
-          rw (
-            formed,
-            g,
-            known-short L (t .writes) ks (own .writes) a,
-            track-same L s ok i t e (addWrites ks)
-                λ j. record { id = t .id; start = t .start; writes = same j; reads = t .reads; ranges = t .ranges },
-          );
-      read = λ a.
-          let same = insertAll-known ks (t .reads) a (own .reads .once) in
-          rw (
-            formed,
-            g,
-            known-short L (t .reads) ks (own .reads) a,
-            track-same L s ok i t e (addReads ks)
-                λ j. record { id = t .id; start = t .start; writes = t .writes; reads = same j; ranges = t .ranges },
-          );
-    }
+known-keys L s w i bs t ks ok d e g a =
+    let own = its-set L (s .last) t w (all-of (TxnOk L (s .last)) (s .active) t (find-holds i (s .active) t e) (ok .txns)) in
+    let same = set-same w (insertAll ks (setOf w t)) t (insertAll-known ks (setOf w t) a (own .once)) in
+    rw (eq-eqb (length i) 16 d, g, known-short L (setOf w t) ks own a, track-same L s ok i t e (addKeys w ks) same)

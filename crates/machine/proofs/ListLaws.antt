@@ -78,6 +78,9 @@ pub all-from : {A : Type 0} (P : A → Type 0) (xs : List A) → ((x : A) → Li
 all-from P [] f = tt
 all-from P (x ∷ xs) f = (f x (List·Memᴰ·head refl), all-from P xs (λ y m. f y (List·Memᴰ·tail m)))
 
+pub not-nil : {A : Type 0} (x : A) (xs : List A) → x ∷ xs ≡ [] → ⊥
+not-nil x xs e = let z : _≡_ {A = ℕ} 0 1 = cc in omega arith
+
 -- ---------------------------------------------------------------- keep
 
 module _ {A : Type 0} (p : A → Bool) where

@@ -9,7 +9,7 @@ use Rattle.bounds.specs.Ranges.{holds}
 use Rattle.machine.specs.Lists.{any}
 use Rattle.machine.specs.State.{Bytes, Txn, Entry}
 use Rattle.machine.specs.Sets.{equal, tracks, conflict}
-use Rattle.machine.specs.History.{Tracked, in-writes, in-reads, in-range, Conflict}
+use Rattle.machine.specs.History.{InTracked, in-writes, in-reads, in-range, Conflict}
 use Rattle.machine.proofs.ListLaws.{or-cases, or-left, or-right, any-some, any-of}
 use Rattle.machine.proofs.SetLaws.{equal-refl, equal-eq}
 
@@ -27,20 +27,20 @@ module _ (t : Txn) (k : Bytes) where
   abbrev inRanges : Bool
   inRanges = any (λ r. holds r k) (t .ranges)
 
-  tracked : ((inWrites || inReads) ≡ true) ⊎ (inRanges ≡ true) → Tracked t k
+  tracked : ((inWrites || inReads) ≡ true) ⊎ (inRanges ≡ true) → InTracked t k
   tracked (inl e) = by-set (or-cases inWrites inReads e)
     where
-      by-set : (inWrites ≡ true) ⊎ (inReads ≡ true) → Tracked t k
+      by-set : (inWrites ≡ true) ⊎ (inReads ≡ true) → InTracked t k
       by-set (inl e) = in-writes (set-means k (t .writes) .0 e)
       by-set (inr e) = in-reads (set-means k (t .reads) .0 e)
   tracked (inr e) = let r = any-some (λ r. holds r k) (t .ranges) e in in-range (r .0) (r .1) (r .2)
 
-  tests : Tracked t k → (inWrites || inReads || inRanges) ≡ true
+  tests : InTracked t k → (inWrites || inReads || inRanges) ≡ true
   tests (in-writes m) = or-left (inWrites || inReads) inRanges (or-left inWrites inReads (set-means k (t .writes) .1 m))
   tests (in-reads m) = or-left (inWrites || inReads) inRanges (or-right inWrites inReads (set-means k (t .reads) .1 m))
   tests (in-range r m e) = or-right (inWrites || inReads) inRanges (any-of (λ r. holds r k) (t .ranges) r m e)
 
-  pub tracks-means : (tracks t k ≡ true) ↔ Tracked t k
+  pub tracks-means : (tracks t k ≡ true) ↔ InTracked t k
   unfolding tracks
   tracks-means = (λ e. tracked (or-cases (inWrites || inReads) inRanges e), tests)
 

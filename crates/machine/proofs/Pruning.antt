@@ -8,11 +8,10 @@ use lib.Dec.{leb, ltb}
 use borrow.Author.Tests.{ltb-true, le-ltb, le-leb}
 use Rattle.machine.specs.Lists.{any, keep, All}
 use Rattle.machine.specs.State.{Bytes, Txn, Entry, State, Ceilings, EntryOk, MachineState}
-use Rattle.machine.specs.Sets.{leastOf, prune, append, tracks, conflict}
+use Rattle.machine.specs.Sets.{prune, inReach, anyActive, tracks, conflict}
 use Rattle.machine.specs.Serve.{entry}
-use Rattle.machine.proofs.Minimum.{least-is}
-use Rattle.machine.proofs.ListLaws.{any-keep, all-map, all-append, keep-append, keep-keep, keep-none}
-use Rattle.machine.proofs.EntryLaws.{prune-all, append-all}
+use Rattle.machine.proofs.ListLaws.{any-keep, all-map, all-append, keep-all, keep-append, keep-keep, keep-none}
+use Rattle.machine.proofs.EntryLaws.{Rule, prune-rule}
 
 -- ---------------------------------------------------------------- the entries that a start sees
 
@@ -52,17 +51,14 @@ up-to-last L s ok = all-map (EntryOk L (s .last)) _ (λ e q. q .committed) (s .e
 
 -- ---------------------------------------------------------------- who is active
 
-pub prune-above : (ts : List Txn) (es : List Entry) (t : Txn) → List·Memᴰ t ts → above (t .start) (prune ts es) ≡ above (t .start) es
-unfolding prune
-prune-above [] es t m = absurd (List·Memᴰ·not-nil m)
-prune-above (u ∷ us) es t m = keep-keep (isAbove (t .start)) (λ e. leb (leastOf u us) (e .seq)) kept es
-  where
-    kept : (e : Entry) → isAbove (t .start) e ≡ true → leb (leastOf u us) (e .seq) ≡ true
-    kept e h = le-leb (leastOf u us) (e .seq) (omega (arith, ltb-true (t .start) (e .seq) h, least-is u us .below t m))
+-- whatever rule the entries leave by
+pub rule-above : (stays : List Txn → Entry → Bool) → Rule stays → (ts : List Txn) (es : List Entry) (t : Txn) → List·Memᴰ t ts
+    → above (t .start) (keep (stays ts) es) ≡ above (t .start) es
+rule-above stays r ts es t m = keep-keep (isAbove (t .start)) (stays ts) (λ e h. r .spares ts t m e (ltb-true (t .start) (e .seq) h)) es
 
 -- the active ones that a drop leaves, or any others
 pub prune-active : (ts : List Txn) (es : List Entry) (t : Txn) → List·Memᴰ t ts → conflict t (prune ts es) ≡ conflict t es
-prune-active ts es t m = same-verdict t (prune ts es) es (prune-above ts es t m)
+prune-active ts es t m = same-verdict t (prune ts es) es (rule-above inReach prune-rule ts es t m)
 
 -- ---------------------------------------------------------------- who begins later
 
@@ -74,17 +70,17 @@ module _ (L : Ceilings) (s : State) (ok : MachineState L s) (ts : List Txn) (t :
   pub prune-later : s .last ≤ t .start → conflict t (prune ts (s .entries)) ≡ conflict t (s .entries)
   prune-later h =
       let a = up-to-larger _ (t .start) (s .entries) h (up-to-last L s ok) in
-      old-verdict t _ _ (prune-all _ ts (s .entries) a) a
+      old-verdict t _ _ (keep-all _ (inReach ts) (s .entries) a) a
 
   -- the list is emptied by a commit or a batch too, where nobody is left active
   pub empty-later :
       (n : ℕ) (ks : List Bytes)
       → max (s .last) n ≤ t .start
-      → conflict t (append ts (s .entries) (entry n ks)) ≡ conflict t (s .entries ++ (entry n ks ∷ []))
+      → conflict t (keep (anyActive ts) (s .entries ++ (entry n ks ∷ []))) ≡ conflict t (s .entries ++ (entry n ks ∷ []))
   empty-later n ks h =
       let a = up-to-larger _ (t .start) (s .entries) (omega arith) (up-to-last L s ok) in
-      let b : n ≤ t .start = omega arith in
-      old-verdict t _ _ (append-all _ ts (s .entries) (entry n ks) a b) (all-append _ (s .entries) (entry n ks ∷ []) a (b, tt))
+      let b : UpTo (t .start) (s .entries ++ (entry n ks ∷ [])) = all-append _ (s .entries) (entry n ks ∷ []) a (omega arith, tt) in
+      old-verdict t _ _ (keep-all _ (anyActive ts) _ b) b
 
 -- ---------------------------------------------------------------- and afterwards
 

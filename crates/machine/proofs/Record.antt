@@ -9,20 +9,20 @@ use native.Mathlib.Omega.{arith}
 use lib.Dec.{eqb}
 use lib.ListN.{length}
 use borrow.Author.Tests.{eq-eqb}
-use Rattle.machine.specs.Lists.{All}
-use Rattle.machine.specs.State.{Bytes, Txn, Entry, State, Ceilings, TxnOk, MachineState}
-use Rattle.machine.specs.Sets.{find, without, prune, append, conflict}
+use Rattle.machine.specs.Lists.{keep, All}
+use Rattle.machine.specs.State.{Bytes, Txn, Entry, State, Ceilings, newTxn, freshState, TxnOk, MachineState}
+use Rattle.machine.specs.Sets.{find, without, inReach, anyActive, conflict}
 use Rattle.machine.specs.Calls.{Op, check, Call, fresh, on, Room, short, broken, holding, Refusal, malformed, again, long, empty, full, Answer, refused, replied, reply}
-use Rattle.machine.specs.Serve.{state, entry, isId, newTxn, verdict, answer, serve}
-use Rattle.machine.specs.Table.{tracking}
-use Rattle.machine.specs.History.{World, written, next, run, start, activeOf, Conflict, Verdict}
+use Rattle.machine.specs.Serve.{entry, isId, verdict, withTxn, entered, dropped, answer, serve}
+use Rattle.machine.specs.History.{World, written, afterCall, afterCalls, start, activeOf, Conflict, SaysConflict}
 use Rattle.machine.proofs.ListLaws.{all-map, all-append, all-of, all-from}
 use Rattle.machine.proofs.ActiveLaws.{find-id, find-holds, put-all, without-all}
 use Rattle.machine.proofs.Effects as E
-use Rattle.machine.proofs.Effects.{Adds, Effect, effect, joined, dropped}
+use Rattle.machine.proofs.Effects.{Adds, Effect, effect}
+use Rattle.machine.proofs.EntryLaws.{Rule, prune-rule, empty-rule}
 use Rattle.machine.proofs.Kept.{RoomOk, fresh-ok, serve-keeps, not-7}
 use Rattle.machine.proofs.Meaning.{conflict-means}
-use Rattle.machine.proofs.Pruning.{above, same-verdict, above-more, UpTo, up-to-none, up-to-larger, up-to-last, prune-above}
+use Rattle.machine.proofs.Pruning.{above, same-verdict, above-more, UpTo, up-to-none, up-to-larger, up-to-last, rule-above}
 
 -- ---------------------------------------------------------------- what a run keeps
 
@@ -59,39 +59,38 @@ after-refused s c h empty = refl
 after-refused s c h full = refl
 
 pub adds-same : (L : Ceilings) (i : Bytes) (t t' : Txn) (c : Op) → Adds L i t c t' → (t' .id ≡ t .id) × (t' .start ≡ t .start)
-adds-same L i t _ _ (E.adds-writes bs ks q k) = (refl, refl)
-adds-same L i t _ _ (E.adds-reads bs ks q k) = (refl, refl)
+adds-same L i t _ _ (E.adds-keys w bs ks q k) = (refl, refl)
 adds-same L i t _ _ (E.adds-range bs r q k l) = (refl, refl)
 
+-- what leaves the list is seen by nobody who is active
+leaving-same : (stays : List Txn → Entry → Bool) → Rule stays → (h es : List Entry) (ts : List Txn)
+    → All (SameAbove h es) ts → All (SameAbove h (keep (stays ts) es)) ts
+leaving-same stays r h es ts a = all-from _ ts λ t m. all-of _ ts t m a ∙ sym (rule-above stays r ts es t m)
+
 module _ (L : Ceilings) (s : State) (h : List Entry) (f : Follows L s h) where
-  with-txn : (t : Txn) → SameAbove h (s .entries) t → MachineState L (tracking s t) → Follows L (tracking s t) h
+  with-txn : (t : Txn) → SameAbove h (s .entries) t → MachineState L (withTxn t s) → Follows L (withTxn t s) h
   with-txn t a ok = record { kept = ok; past = f .past; same = put-all _ t (s .active) a (f .same) }
 
   with-entry :
       (left : List Txn) (n : ℕ) (ks : List Bytes)
       → All (SameAbove h (s .entries)) left
-      → MachineState L (joined s left n ks)
-      → Follows L (joined s left n ks) (h ++ (entry n ks ∷ []))
-  unfolding append
+      → MachineState L (entered left n ks s)
+      → Follows L (entered left n ks s) (h ++ (entry n ks ∷ []))
   with-entry left n ks a ok =
+      let more = all-map _ _ (λ u. above-more (u .start) h (s .entries) (entry n ks ∷ [])) left a in
       record {
         kept = ok;
         past = all-append _ h _ (up-to-larger (s .last) (max (s .last) n) h (omega arith) (f .past)) (omega arith, tt);
-        same = entered left a;
+        same = leaving-same anyActive empty-rule (h ++ (entry n ks ∷ [])) (s .entries ++ (entry n ks ∷ [])) left more;
       }
-    where
-      entered :
-          (ts : List Txn)
-          → All (SameAbove h (s .entries)) ts
-          → All (SameAbove (h ++ (entry n ks ∷ [])) (append ts (s .entries) (entry n ks))) ts
-      entered [] b = tt
-      entered (t ∷ ts) b = all-map _ _ (λ u. above-more (u .start) h (s .entries) (entry n ks ∷ [])) (t ∷ ts) b
 
-  with-drop : (i : Bytes) → MachineState L (dropped s i) → Follows L (dropped s i) h
-  with-drop i ok = record { kept = ok; past = f .past; same = pruned (without i (s .active)) (without-all i _ _ (f .same)) }
-    where
-      pruned : (ts : List Txn) → All (SameAbove h (s .entries)) ts → All (SameAbove h (prune ts (s .entries))) ts
-      pruned ts a = all-from _ ts λ t m. all-of _ ts t m a ∙ sym (prune-above ts (s .entries) t m)
+  with-drop : (i : Bytes) → MachineState L (dropped i s) → Follows L (dropped i s) h
+  with-drop i ok =
+      record {
+        kept = ok;
+        past = f .past;
+        same = leaving-same inReach prune-rule h (s .entries) (without i (s .active)) (without-all i _ _ (f .same));
+      }
 
   begun-same : (i : Bytes) → SameAbove h (s .entries) (newTxn i (s .last))
   begun-same i = up-to-none (s .last) h (f .past) ∙ sym (up-to-none (s .last) (s .entries) (up-to-last L s (f .kept)))
@@ -113,20 +112,20 @@ module _ (L : Ceilings) (s : State) (h : List Entry) (f : Follows L s h) where
   follows _ _ (E.batches n bs ks u e q k g) ok = rw (e, q) (with-entry _ n _ (f .same) (rw e at ok))
   follows _ _ (E.drops i t u e q) ok = rw (e, append-nil) (with-drop i (rw e at ok))
 
-pub fresh-follows : (L : Ceilings) (n : ℕ) → Follows L (state n [] []) []
+pub fresh-follows : (L : Ceilings) (n : ℕ) → Follows L (freshState n) []
 fresh-follows L n = record { kept = fresh-ok L n; past = tt; same = tt }
 
-pub next-follows : (L : Ceilings) (room : Room) (h : List Entry) (c : Call) → FollowsRoom L room h → FollowsWorld L (next L (world room h) c)
+pub next-follows : (L : Ceilings) (room : Room) (h : List Entry) (c : Call) → FollowsRoom L room h → FollowsWorld L (afterCall L (world room h) c)
 unfolding serve
 next-follows L short h c f = absurd f
 next-follows L broken h c f = absurd f
 next-follows L (holding s) h (fresh n) f = fresh-follows L n
 next-follows L (holding s) h (on c) f = follows L s h f c _ (effect L s c) (serve-keeps L (holding s) (on c) (f .kept))
 
-pub run-follows : (L : Ceilings) (w : World) (cs : List Call) → FollowsWorld L w → FollowsWorld L (run L w cs)
-unfolding run
+pub run-follows : (L : Ceilings) (w : World) (cs : List Call) → FollowsWorld L w → FollowsWorld L (afterCalls L w cs)
+unfolding afterCalls
 run-follows L w [] f = f
-run-follows L w (c ∷ cs) f = run-follows L (next L w c) cs (next-follows L (w .room) (w .history) c f)
+run-follows L w (c ∷ cs) f = run-follows L (afterCall L w c) cs (next-follows L (w .room) (w .history) c f)
 
 -- ---------------------------------------------------------------- the verdict
 
@@ -138,7 +137,7 @@ verdict-0 : (b : Bool) → (verdict b ≡ 0) ↔ (b ≡ true → ⊥)
 verdict-0 true = (λ e. absurd (omega arith), λ n. absurd (n refl))
 verdict-0 false = (λ e. false≢true, λ n. refl)
 
-said : (t : Txn) (h es : List Entry) (room : Room) → conflict t h ≡ conflict t es → Verdict t h (replied 0 (verdict (conflict t es)) room)
+said : (t : Txn) (h es : List Entry) (room : Room) → conflict t h ≡ conflict t es → SaysConflict t h (replied 0 (verdict (conflict t es)) room)
 said t h es room q =
     let means : (conflict t es ≡ true) ↔ Conflict t h = rw (← q) (conflict-means t h) in
     record {
@@ -151,7 +150,7 @@ pub check-verdict :
     (L : Ceilings) (room : Room) (h : List Entry) (i : Bytes) (t : Txn)
     → FollowsRoom L room h
     → find i (activeOf room) ≡ some t
-    → Verdict t h (serve L room (on (check i)))
+    → SaysConflict t h (serve L room (on (check i)))
 unfolding serve answer
 check-verdict L short h i t f e = absurd f
 check-verdict L broken h i t f e = absurd f
@@ -164,15 +163,15 @@ check-verdict L (holding s) h i t f e =
 -- any calls, refused ones and further freshes included
 pub demand-3 :
     (L : Ceilings) (n : ℕ) (cs : List Call) (i : Bytes) (t : Txn)
-    → find i (activeOf (run L (start n) cs .room)) ≡ some t
-    → Verdict t (run L (start n) cs .history) (serve L (run L (start n) cs .room) (on (check i)))
+    → find i (activeOf (afterCalls L (start n) cs .room)) ≡ some t
+    → SaysConflict t (afterCalls L (start n) cs .history) (serve L (afterCalls L (start n) cs .room) (on (check i)))
 demand-3 L n cs i t e = check-verdict L _ _ i t (run-follows L (start n) cs (fresh-follows L n)) e
 
 -- "A room made fresh, written only by the calls and passed whole never gets 7."
-pub never-7 : (L : Ceilings) (n : ℕ) (cs : List Call) (c : Call) → serve L (run L (start n) cs .room) c .status ≡ 7 → ⊥
-never-7 L n cs c = holds-state (run L (start n) cs .room) (run-follows L (start n) cs (fresh-follows L n))
+pub never-7 : (L : Ceilings) (n : ℕ) (cs : List Call) (c : Call) → serve L (afterCalls L (start n) cs .room) c .status ≡ 7 → ⊥
+never-7 L n cs c = holds-state (afterCalls L (start n) cs .room) (run-follows L (start n) cs (fresh-follows L n))
   where
-    holds-state : (room : Room) → FollowsRoom L room (run L (start n) cs .history) → serve L room c .status ≡ 7 → ⊥
+    holds-state : (room : Room) → FollowsRoom L room (afterCalls L (start n) cs .history) → serve L room c .status ≡ 7 → ⊥
     holds-state short f = absurd f
     holds-state broken f = absurd f
     holds-state (holding s) f = not-7 L s c

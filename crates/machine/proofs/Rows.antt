@@ -11,15 +11,16 @@ use lib.ListN.{length, length-append}
 use Rattle.bounds.specs.Ranges.{Range, notEmpty}
 use Rattle.fields.specs.Fields.{keyList, boundsOf}
 use Rattle.fields.specs.Forms.{shortKeys}
-use Rattle.machine.specs.Lists.{sum}
-use Rattle.machine.specs.State.{Bytes, Txn, Entry, State, Ceilings, MachineState, marks, keyBytes, txnMarks, txnBytes, entryMarks, entryBytes, fits}
-use Rattle.machine.specs.Sets.{insertAll, find, without, append}
-use Rattle.machine.specs.Calls.{Op, begin, trackWrites, trackReads, trackRange, check, commit, batch, dropTxn, minimum, on, holding, malformed, long, full, done, refused, reply, _>>=_, _>>_, need, given}
-use Rattle.machine.specs.Serve.{state, entry, isId, isNew, shortRange, newTxn, addWrites, addReads, addRange, settle, track, answer, serve}
-use Rattle.machine.specs.Table.{isNil, ofSome, isNone, passesTotal, tracking, trackPasses, statusOf}
-use Rattle.machine.proofs.ListLaws.{sum-append}
+use Rattle.machine.specs.declared.Which.{Which}
+use Rattle.machine.specs.Lists.{isNil, keep, sum}
+use Rattle.machine.specs.State.{Bytes, Txn, Entry, State, Ceilings, newTxn, MachineState, marks, keyBytes, txnMarks, txnBytes, entryMarks, entryBytes, fits}
+use Rattle.machine.specs.Sets.{insertAll, find, without, anyActive}
+use Rattle.machine.specs.Calls.{Op, begin, trackKeys, trackRange, check, commit, batch, dropTxn, minimum, ofSome, on, holding, malformed, long, full, done, refused, reply, _>>=_, _>>_, need, given}
+use Rattle.machine.specs.Serve.{entry, isId, isNew, shortRange, addKeys, addRange, withTxn, begun, entered, settle, track, answer, serve}
+use Rattle.machine.specs.Table.{isNone, passesTotal, trackPasses, statusOf}
+use Rattle.machine.proofs.ListLaws.{not-nil}
+use Rattle.machine.proofs.EntryLaws.{empty-rule, rule-idle, entry-sum, entry-length}
 use Rattle.machine.proofs.ActiveLaws.{find-id, put-new-sum, put-new-length, put-known-length, without-sum, without-length}
-use Rattle.machine.proofs.Effects.{begun, joined}
 
 -- ---------------------------------------------------------------- what a state passes
 
@@ -73,11 +74,13 @@ settle-status L s v u b e = rw (fits-not L u, e) (go b)
 
 -- ---------------------------------------------------------------- row 6, call by call
 
-nothing-passes : (L : Ceilings) (n : ℕ) → passes L (state n [] []) ≡ false
+nothing-passes : (L : Ceilings) (u : State) → u .active ≡ [] → u .entries ≡ [] → passes L u ≡ false
 unfolding sum
-nothing-passes L n =
-    ap₂ _||_ (le-ltb (L .active) 0 (omega arith))
-    (ap₂ _||_ (le-ltb (L .entries) 0 (omega arith)) (passes-no-total L (state n [] []) (omega arith) (omega arith)))
+nothing-passes L u a b =
+    ap₂ _||_ (le-ltb (L .active) _ (omega (arith, ap (length {A = Txn}) a)))
+    (ap₂ _||_ (le-ltb (L .entries) _ (omega (arith, ap (length {A = Entry}) b)))
+    (passes-no-total L u
+    (omega (arith, ap (sum txnMarks) a, ap (sum entryMarks) b)) (omega (arith, ap (sum txnBytes) a, ap (sum entryBytes) b))))
 
 module _ (L : Ceilings) (s : State) (ok : MachineState L s) where
   few-active : (n : ℕ) → n ≤ length (s .active) → ltb (L .active) n ≡ false
@@ -86,58 +89,58 @@ module _ (L : Ceilings) (s : State) (ok : MachineState L s) where
   same-entries : ltb (L .entries) (length (s .entries)) ≡ false
   same-entries = le-ltb (L .entries) (length (s .entries)) (ok .ceilings .entries)
 
-  one-entry-more : (e : Entry)
-      → ltb (L .entries) (length (s .entries ++ (e ∷ []))) ≡ ltb (L .entries) (suc (length (s .entries)))
-  one-entry-more e = ap (ltb (L .entries)) (length-append (s .entries) (e ∷ []) ∙ (omega arith))
+  emptied-passes : (left : List Txn) (n : ℕ) (ks : List Bytes) → left ≡ [] → passes L (entered left n ks s) ≡ false
+  emptied-passes left n ks q = nothing-passes L (entered left n ks s) q (rule-idle anyActive empty-rule left _ q)
+
+  one-entry-more : (left : List Txn) (e : Entry) → (left ≡ [] → ⊥)
+      → ltb (L .entries) (length (keep (anyActive left) (s .entries ++ (e ∷ [])))) ≡ ltb (L .entries) (suc (length (s .entries)))
+  one-entry-more left e h = ap (ltb (L .entries)) (entry-length left (s .entries) e h)
 
   -- begin adds one active and no mark
-  begin-passes : (i : Bytes) → find i (s .active) ≡ none → passes L (begun s i) ≡ leb (L .active) (length (s .active))
+  begin-passes : (i : Bytes) → find i (s .active) ≡ none → passes L (begun i s) ≡ leb (L .active) (length (s .active))
   unfolding sum
   begin-passes i e =
       let t = newTxn i (s .last) in
       ap₂ _||_ (ap (ltb (L .active)) (put-new-length t (s .active) e) ∙ ltb-suc (L .active) (length (s .active)))
       (ap₂ _||_ same-entries
-      (passes-no-total L (begun s i)
+      (passes-no-total L (begun i s)
       (omega (arith, put-new-sum txnMarks t (s .active) e, ok .ceilings .marks))
       (omega (arith, put-new-sum txnBytes t (s .active) e, ok .ceilings .bytes))))
       ∙ or-false (leb (L .active) (length (s .active)))
 
   -- a track changes no number of active ones or entries
-  track-passes : (t u : Txn) → find (u .id) (s .active) ≡ some t → passes L (tracking s u) ≡ passesTotal L (tracking s u)
+  track-passes : (t u : Txn) → find (u .id) (s .active) ≡ some t → passes L (withTxn u s) ≡ passesTotal L (withTxn u s)
   track-passes t u e =
       ap₂ _||_ (few-active _ (omega (arith, put-known-length u (s .active) t e (ok .distinct))))
-      (ap (λ b. b || passesTotal L (tracking s u)) same-entries)
+      (ap (λ b. b || passesTotal L (withTxn u s)) same-entries)
 
   -- commit passes no total: keys move, reads and ranges go
   commit-passes : (i : Bytes) (n : ℕ) (t : Txn) → find i (s .active) ≡ some t
       → (left : List Txn) → without i (s .active) ≡ left
-      → passes L (joined s left n (t .writes)) ≡ (leb (L .entries) (length (s .entries)) && not (isNil left))
-  unfolding append sum
-  commit-passes i n t e [] q =
-      nothing-passes L (max (s .last) n) ∙ sym (and-false (leb (L .entries) (length (s .entries))))
+      → passes L (entered left n (t .writes) s) ≡ (leb (L .entries) (length (s .entries)) && not (isNil left))
+  commit-passes i n t e [] q = emptied-passes [] n (t .writes) refl ∙ sym (and-false (leb (L .entries) (length (s .entries))))
   commit-passes i n t e (u ∷ us) q =
       let moved = entry n (t .writes) in
       let fewer = rw q at (without-length i (s .active) t e (ok .distinct)) in
       let fewer-marks = rw q at (without-sum txnMarks i (s .active) t e (ok .distinct)) in
       let fewer-bytes = rw q at (without-sum txnBytes i (s .active) t e (ok .distinct)) in
       ap₂ _||_ (few-active _ (omega (arith, fewer)))
-      (ap₂ _||_ (one-entry-more moved ∙ ltb-suc (L .entries) (length (s .entries)))
-      (passes-no-total L (joined s (u ∷ us) n (t .writes))
-      (omega (arith, sum-append entryMarks (s .entries) (moved ∷ []), fewer-marks, ok .ceilings .marks))
-      (omega (arith, sum-append entryBytes (s .entries) (moved ∷ []), fewer-bytes, ok .ceilings .bytes))))
+      (ap₂ _||_ (one-entry-more (u ∷ us) moved (not-nil u us) ∙ ltb-suc (L .entries) (length (s .entries)))
+      (passes-no-total L (entered (u ∷ us) n (t .writes) s)
+      (omega (arith, entry-sum entryMarks (u ∷ us) (s .entries) moved (not-nil u us), fewer-marks, ok .ceilings .marks))
+      (omega (arith, entry-sum entryBytes (u ∷ us) (s .entries) moved (not-nil u us), fewer-bytes, ok .ceilings .bytes))))
       ∙ or-false (leb (L .entries) (length (s .entries)))
       ∙ sym (and-true (leb (L .entries) (length (s .entries))))
 
   -- a batch adds one entry, if someone is active
   batch-passes : (n : ℕ) (ks : List Bytes) (active : List Txn) → s .active ≡ active
-      → passes L (joined s active n ks)
+      → passes L (entered active n ks s)
       ≡ (not (isNil active)
-      && (ltb (L .entries) (suc (length (s .entries))) || passesTotal L (joined s active n ks)))
-  unfolding append
-  batch-passes n ks [] q = nothing-passes L (max (s .last) n)
+      && (ltb (L .entries) (suc (length (s .entries))) || passesTotal L (entered active n ks s)))
+  batch-passes n ks [] q = emptied-passes [] n ks refl
   batch-passes n ks (u ∷ us) q =
       ap₂ _||_ (few-active _ (omega (arith, ap (length {A = Txn}) q)))
-      (ap (λ b. b || passesTotal L (joined s (u ∷ us) n ks)) (one-entry-more (entry n ks)))
+      (ap (λ b. b || passesTotal L (entered (u ∷ us) n ks s)) (one-entry-more (u ∷ us) (entry n ks) (not-nil u us)))
 
 -- ---------------------------------------------------------------- every call
 
@@ -146,11 +149,11 @@ module _ (L : Ceilings) (s : State) (ok : MachineState L s) where
   Row c = serve L (holding s) (on c) .status ≡ statusOf L s c
 
   track-status : (i : Bytes) (f : Txn → Txn) → ((t : Txn) → f t .id ≡ t .id) → (o : Option Txn) → find i (s .active) ≡ o
-      → reply s (track L s i f) .status ≡ cond (isNew (find i (s .active))) 1 (cond (trackPasses L s i f) 6 0)
+      → reply s (track L s i f) .status ≡ cond (isNew (find i (s .active)) || false) 1 (cond (trackPasses L s i f) 6 0)
   track-status i f h none e = rw e
   track-status i f h (some t) e =
       rw e
-      (settle-status L s (txnMarks (f t) - txnMarks t) (tracking s (f t)) _
+      (settle-status L s (txnMarks (f t) - txnMarks t) (withTxn (f t) s) _
       (track-passes L s ok t (f t) (ap (λ j. find j (s .active)) (h t ∙ sym (find-id i (s .active) t e)) ∙ e)))
 
   begin-row : (i : Bytes) (b : Bool) → isId i ≡ b → (o : Option Txn) → find i (s .active) ≡ o → Row (begin i)
@@ -158,27 +161,17 @@ module _ (L : Ceilings) (s : State) (ok : MachineState L s) where
   begin-row i false p o e = rw p
   begin-row i true p (some t) e = rw (p, e)
   begin-row i true p none e =
-      rw (p, e) (settle-status L s (s .last) (begun s i) _ (begin-passes L s ok i e))
+      rw (p, e) (settle-status L s (s .last) (begun i s) _ (begin-passes L s ok i e))
 
-  -- either track of keys
-  keys-status : (i : Bytes) (add : List Bytes → Txn → Txn) → ((ks : List Bytes) (t : Txn) → add ks t .id ≡ t .id)
-      → (b : Bool) (o : Option (List Bytes))
-      → reply s
-      (need b malformed >> (given o (refused malformed) >>= λ ks.
-      need (shortKeys (L .key) ks) long >> track L s i (add ks)))
-      .status
-      ≡ cond (not b || isNone o) 2
-      (cond (ofSome o λ ks. not (shortKeys (L .key) ks)) 4
-      (cond (isNew (find i (s .active))) 1
-      (cond (ofSome o λ ks. trackPasses L s i (add ks)) 6 0)))
-  keys-status i add h false o = refl
-  keys-status i add h true none = refl
-  keys-status i add h true (some ks) = go (shortKeys (L .key) ks)
+  keys-row : (w : Which) (i bs : Bytes) (b : Bool) → isId i ≡ b → (o : Option (List Bytes)) → keyList bs ≡ o → Row (trackKeys w i bs)
+  unfolding serve answer
+  keys-row w i bs false p o e = rw p
+  keys-row w i bs true p none e = rw (p, e)
+  keys-row w i bs true p (some ks) e = go (shortKeys (L .key) ks) refl
     where
-      go : (b : Bool) → reply s (need b long >> track L s i (add ks)) .status
-          ≡ cond (not b) 4 (cond (isNew (find i (s .active))) 1 (cond (trackPasses L s i (add ks)) 6 0))
-      go true = track-status i (add ks) (h ks) (find i (s .active)) refl
-      go false = refl
+      go : (c : Bool) → shortKeys (L .key) ks ≡ c → Row (trackKeys w i bs)
+      go true g = rw (p, e, g) (track-status i (addKeys w ks) (λ t. refl) (find i (s .active)) refl)
+      go false g = rw (p, e, g)
 
   range-row : (i bs : Bytes) (b : Bool) → isId i ≡ b → (o : Option Range) → boundsOf bs ≡ o → Row (trackRange i bs)
   unfolding serve answer
@@ -198,7 +191,7 @@ module _ (L : Ceilings) (s : State) (ok : MachineState L s) where
   commit-row i n true p (some t) e =
       let left = without i (s .active) in
       rw (p, e)
-      (settle-status L s (max (s .last) n) (joined s left n (t .writes)) _ (commit-passes L s ok i n t e left refl))
+      (settle-status L s (max (s .last) n) (entered left n (t .writes) s) _ (commit-passes L s ok i n t e left refl))
 
   batch-row : (n : ℕ) (bs : Bytes) (o : Option (List Bytes)) → keyList bs ≡ o → Row (batch n bs)
   unfolding serve answer
@@ -209,7 +202,7 @@ module _ (L : Ceilings) (s : State) (ok : MachineState L s) where
       go true p =
           let set = insertAll ks [] in
           rw (e, p)
-          (settle-status L s (max (s .last) n) (joined s (s .active) n set) _
+          (settle-status L s (max (s .last) n) (entered (s .active) n set s) _
           (batch-passes L s ok n set (s .active) refl))
       go false p = rw (e, p)
 
@@ -234,8 +227,7 @@ module _ (L : Ceilings) (s : State) (ok : MachineState L s) where
 pub rows : (L : Ceilings) (s : State) (c : Op) → MachineState L s → serve L (holding s) (on c) .status ≡ statusOf L s c
 unfolding serve answer
 rows L s (begin i) ok = begin-row L s ok i (isId i) refl (find i (s .active)) refl
-rows L s (trackWrites i bs) ok = keys-status L s ok i addWrites (λ ks t. refl) (isId i) (keyList bs)
-rows L s (trackReads i bs) ok = keys-status L s ok i addReads (λ ks t. refl) (isId i) (keyList bs)
+rows L s (trackKeys w i bs) ok = keys-row L s ok w i bs (isId i) refl (keyList bs) refl
 rows L s (trackRange i bs) ok = range-row L s ok i bs (isId i) refl (boundsOf bs) refl
 rows L s (check i) ok = check-row L s ok i (isId i) refl (find i (s .active)) refl
 rows L s (commit i n) ok = commit-row L s ok i n (isId i) refl (find i (s .active)) refl

@@ -11,16 +11,19 @@ use lib.ListN.{length}
 use Rattle.bounds.specs.Ranges.{Range}
 use Rattle.fields.specs.Fields.{boundsOf}
 use Rattle.machine.specs.Lists.{keep}
-use Rattle.machine.specs.State.{Bytes, Txn, Entry, State, Ceilings}
-use Rattle.machine.specs.Sets.{insertAll, put, find, without, leastOf, least, prune, append, conflict}
+use Rattle.machine.specs.declared.Which.{Which}
+use Rattle.machine.specs.declared.Which.the-variants.{Writes, Reads}
+use Rattle.machine.specs.State.{Bytes, Txn, Entry, State, Ceilings, freshState, advanced}
+use Rattle.machine.specs.Sets.{insertAll, put, find, without, leastOf, least, prune, inReach, anyActive, conflict}
 use Rattle.machine.specs.Calls.{Op, begin, check, commit, batch, dropTxn, minimum, on, Room, short, broken, holding, Refusal, Answer, done, absent, refused, Reply, replied, reply, _>>=_, given}
-use Rattle.machine.specs.Serve.{state, entry, verdict, answer, serve}
-use Rattle.machine.specs.History.{World, run, start, next}
-use Rattle.machine.specs.Table.{tracking}
+use Rattle.machine.specs.Serve.{entry, verdict, addKeys, withTxn, begun, entered, dropped, answer, serve}
+use Rattle.machine.specs.History.{World, afterCall, afterCalls, start}
 use Rattle.machine.specs.Rust.{Committed, Manager, manager, checkTxn, checkHasConflict, minWith, minStartedSeq, onRange, committed, clearIdle, retains, recycle, asNumber, rust, rustRun, Same, Agree, Value, Unrefused}
+use Rattle.machine.proofs.ListLaws.{not-nil}
+use Rattle.machine.proofs.EntryLaws.{prune-rule, empty-rule, rule-idle, anyone-keeps}
 use Rattle.machine.proofs.Kept.{refusal-number}
 use Rattle.machine.proofs.RustVerdict.{verdict-same}
-use Rattle.machine.proofs.Effects.{begun, joined, dropped, Adds, adds-writes, adds-reads, adds-range, Seeks, seeks-writes, seeks-reads, seeks-range, seeks-check, Effect, refuses, misses, nobody, advances, prunes, checks, sees-least, begins, tracks, commits, batches, drops, effect}
+use Rattle.machine.proofs.Effects.{Adds, adds-keys, adds-range, Seeks, seeks-keys, seeks-range, seeks-check, Effect, refuses, misses, nobody, advances, prunes, checks, sees-least, begins, tracks, commits, batches, drops, effect}
 
 -- ---------------------------------------------------------------- the minimum
 
@@ -40,10 +43,11 @@ same-append (c ∷ cs) [] k n ks s = absurd s
 same-append (c ∷ cs) (e ∷ es) k n ks s = (s .0, same-append cs es k n ks (s .1))
 
 same-entered : (left : List Txn) (cs : List Committed) (es : List Entry) (k n : ℕ) (ks : List Bytes) → Same cs es
-    → Same (clearIdle (minStartedSeq left) (cs ++ (committed k n ks ∷ []))) (append left es (entry n ks))
-unfolding append minStartedSeq
-same-entered [] cs es k n ks s = tt
-same-entered (t ∷ ts) cs es k n ks s = same-append cs es k n ks s
+    → Same (clearIdle (minStartedSeq left) (cs ++ (committed k n ks ∷ []))) (keep (anyActive left) (es ++ (entry n ks ∷ [])))
+unfolding minStartedSeq
+same-entered [] cs es k n ks s = rw (rule-idle anyActive empty-rule [] (es ++ (entry n ks ∷ [])) refl) tt
+same-entered (t ∷ ts) cs es k n ks s =
+    rw (anyone-keeps (t ∷ ts) (es ++ (entry n ks ∷ [])) (not-nil t ts)) (same-append cs es k n ks s)
 
 same-keep : (m : ℕ) (cs : List Committed) (es : List Entry) → Same cs es
     → Same (keep (λ c. retains m (c .committedSeq)) cs) (keep (λ e. leb m (e .seq)) es)
@@ -69,8 +73,8 @@ same-keep m (c ∷ cs) (e ∷ es) s =
 
 same-prune : (left : List Txn) (cs : List Committed) (es : List Entry) → Same cs es
     → Same (recycle (minStartedSeq left) cs) (prune left es)
-unfolding prune
-same-prune [] cs es s = rw (least-same []) tt
+unfolding inReach
+same-prune [] cs es s = rw (least-same [], rule-idle inReach prune-rule [] es refl) tt
 same-prune (t ∷ ts) cs es s = rw (least-same (t ∷ ts)) (same-keep (leastOf t ts) cs es s)
 
 same-length : (cs : List Committed) (es : List Entry) → Same cs es → length es ≡ length cs
@@ -118,8 +122,7 @@ module _ (L : Ceilings) (s : State) (cs : List Committed) (q : Same cs (s .entri
   -- `if let Some(txn_state)`: nothing happens to an unknown id
   seeks : (i : Bytes) (c : Op) → Seeks i c → find i (s .active) ≡ none → rust c beforehand ≡ beforehand
   unfolding rust
-  seeks i _ (seeks-writes bs) e = rw e
-  seeks i _ (seeks-reads bs) e = rw e
+  seeks i _ (seeks-keys w bs) e = rw e
   seeks i _ (seeks-range bs) e = rw e (go (boundsOf bs))
     where
       go : (o : Option Range) → onRange o (λ r. beforehand) beforehand ≡ beforehand
@@ -130,13 +133,12 @@ module _ (L : Ceilings) (s : State) (cs : List Committed) (q : Same cs (s .entri
   adds : (i : Bytes) (t t' : Txn) (c : Op) → Adds L i t c t' → find i (s .active) ≡ some t
       → rust c beforehand ≡ manager (put t' (s .active)) cs (s .last)
   unfolding rust
-  adds i t _ _ (adds-writes bs ks f g) e = rw (e, f)
-  adds i t _ _ (adds-reads bs ks f g) e = rw (e, f)
+  adds i t _ _ (adds-keys Writes bs ks f g) e = rw (e, f)
+  adds i t _ _ (adds-keys Reads bs ks f g) e = rw (e, f)
   adds i t _ _ (adds-range bs r f g g') e = rw (e, f)
 
   adds-value : (i : Bytes) (t t' : Txn) (c : Op) (v : ℕ) → Adds L i t c t' → Value c beforehand v
-  adds-value i t _ _ v (adds-writes bs ks f g) = tt
-  adds-value i t _ _ v (adds-reads bs ks f g) = tt
+  adds-value i t _ _ v (adds-keys w bs ks f g) = tt
   adds-value i t _ _ v (adds-range bs r f g g') = tt
 
   abbrev pruned : Bytes → List Entry
@@ -151,37 +153,37 @@ module _ (L : Ceilings) (s : State) (cs : List Committed) (q : Same cs (s .entri
   by-effect c _ (misses i k e) = replies-absent beforehand c s 0 s (rw (seeks i c k e) (agree s cs q))
   by-effect _ _ (nobody e) = replies-absent beforehand minimum s 0 s (agree s cs q)
   by-effect _ _ (advances i n e) =
-      let u = state (max (s .last) n) (s .active) (s .entries) in
+      let u = advanced n s in
       replies-absent beforehand (commit i n) s (max (s .last) n) u (rw e (agree u cs q))
   by-effect _ _ (prunes i u p e) =
       rw p
-      (replies-absent beforehand (dropTxn i) s (length (pruned i)) (dropped s i) (agree (dropped s i) _ (pruned-same i)))
+      (replies-absent beforehand (dropTxn i) s (length (pruned i)) (dropped i s) (agree (dropped i s) _ (pruned-same i)))
   by-effect _ _ (checks i t e) =
       replies-done beforehand (check i) s (verdict (conflict t (s .entries))) s (agree s cs q)
       (rw (e, verdict-same t cs (s .entries) q) (verdict-number (conflict t (s .entries))))
   by-effect _ _ (sees-least n e) = replies-done beforehand minimum s n s (agree s cs q) (least-same (s .active) ∙ e)
   by-effect _ _ (begins i u p d e f) =
-      rw p (replies-done beforehand (begin i) s (s .last) (begun s i) (agree (begun s i) cs q) refl)
+      rw p (replies-done beforehand (begin i) s (s .last) (begun i s) (agree (begun i s) cs q) refl)
   by-effect c _ (tracks i t t' u w p e a f) =
       rw p
-      (replies-done beforehand c s _ (tracking s t') (rw (adds i t t' c a e) (agree (tracking s t') cs q))
+      (replies-done beforehand c s _ (withTxn t' s) (rw (adds i t t' c a e) (agree (withTxn t' s) cs q))
       (adds-value i t t' c _ a))
   by-effect _ _ (commits i n t u p e f) =
       let left = without i (s .active) in
-      let after = joined s left n (t .writes) in
+      let after = entered left n (t .writes) s in
       rw p
       (replies-done beforehand (commit i n) s (max (s .last) n) after
       (rw e (agree after _ (same-entered left cs (s .entries) (t .start) n (t .writes) q)))
       (rw e))
   by-effect _ _ (batches n bs ks u p g h f) =
-      let after = joined s (s .active) n (insertAll ks []) in
+      let after = entered (s .active) n (insertAll ks []) s in
       rw p
       (replies-done beforehand (batch n bs) s (max (s .last) n) after
       (rw g (agree after _ (same-entered (s .active) cs (s .entries) n n (insertAll ks []) q)))
       refl)
   by-effect _ _ (drops i t u p e) =
       rw p
-      (replies-done beforehand (dropTxn i) s (length (pruned i)) (dropped s i) (agree (dropped s i) _ (pruned-same i))
+      (replies-done beforehand (dropTxn i) s (length (pruned i)) (dropped i s) (agree (dropped i s) _ (pruned-same i))
       (same-length (recycle (minStartedSeq (without i (s .active))) cs) (pruned i) (pruned-same i)))
 
 manager-is : (m : Manager) (s : State) → Agree m s → m ≡ manager (s .active) (m .recentCommittedTxns) (s .last)
@@ -247,17 +249,17 @@ room-equals L m (holding s) a =
     }
 
 run-agrees : (L : Ceilings) (w : World) (m : Manager) (cs : List Op) → AgreeRoom m (w .room) → Unrefused L (w .room) cs
-    → AgreeRoom (rustRun m cs) (run L w (map on cs) .room)
-unfolding run rustRun
+    → AgreeRoom (rustRun m cs) (afterCalls L w (map on cs) .room)
+unfolding afterCalls rustRun
 run-agrees L w m [] a u = a
 run-agrees L w m (c ∷ cs) a u =
-    run-agrees L (next L w (on c)) (rust c m) cs (room-equals L m (w .room) a .answers c .room (u .0)) (u .1)
+    run-agrees L (afterCall L w (on c)) (rust c m) cs (room-equals L m (w .room) a .answers c .room (u .0)) (u .1)
 
 -- demand 2: "While no call has answered 2 to 7"
-pub demand-2 : (L : Ceilings) (n : ℕ) (cs : List Op) → Unrefused L (holding (state n [] [])) cs
-    → Equals L (rustRun (manager [] [] n) cs) (run L (start n) (map on cs) .room)
+pub demand-2 : (L : Ceilings) (n : ℕ) (cs : List Op) → Unrefused L (holding (freshState n)) cs
+    → Equals L (rustRun (manager [] [] n) cs) (afterCalls L (start n) (map on cs) .room)
 demand-2 L n cs u =
-    room-equals L _ _ (run-agrees L (start n) (manager [] [] n) cs (agree (state n [] []) [] tt) u)
+    room-equals L _ _ (run-agrees L (start n) (manager [] [] n) cs (agree (freshState n) [] tt) u)
 
 -- and so at every point of a run in which nothing is refused: its beginnings are such runs
 pub unrefused-front : (L : Ceilings) (room : Room) (cs ds : List Op) → Unrefused L room (cs ++ ds) → Unrefused L room cs

@@ -2,7 +2,7 @@
 use Prim.Native.Nat.{ℕ, suc, _+_, _≤_}
 use mathlib.Core.Path.{_≡_, refl, sym, ap, _∙_, subst}
 use mathlib.Core.Bool.{Bool, true, false, cond, not, _||_, false≢true, true≢false}
-use mathlib.Core.List.{List, [], _∷_, List·Memᴰ, List·Memᴰ·head, List·Memᴰ·not-nil}
+use mathlib.Core.List.{List, [], _∷_, _++_, List·Memᴰ, List·Memᴰ·head, List·Memᴰ·not-nil}
 use mathlib.Core.Logic.{_↔_, _⊎_, inl, inr, Iff·trans}
 use mathlib.Core.Option.{some}
 use native.Mathlib.Omega.{arith}
@@ -12,15 +12,18 @@ use lib.Dec.{leb, ltb}
 use lib.ListN.{length, length-append}
 use Rattle.bounds.specs.Ranges.{Range}
 use Rattle.fields.specs.Fields.{keyList, boundsOf}
-use Rattle.machine.specs.Lists.{sum}
-use Rattle.machine.specs.State.{Bytes, Txn, Entry, State, Ceilings, MachineState, marks, keyBytes, rangeBytes, txnMarks, txnBytes, entryMarks, entryBytes}
-use Rattle.machine.specs.Sets.{equal, insertAll, find, without, append}
-use Rattle.machine.specs.Calls.{Op, begin, trackWrites, trackReads, trackRange, check, commit, batch, dropTxn, minimum, on, holding}
-use Rattle.machine.specs.Serve.{entry, addWrites, addReads, addRange, serve}
-use Rattle.machine.specs.Table.{isNil, ofSome, isMalformed, isLong, isEmptyRange, isAgain, isAbsent, isFull, passesTotal, tracking, trackPasses, entered}
+use Rattle.machine.specs.declared.Which.{Which}
+use Rattle.machine.specs.Lists.{isNil, keep, sum}
+use Rattle.machine.specs.State.{Bytes, Txn, Entry, State, Ceilings, setOf, MachineState, marks, keyBytes, rangeBytes, txnMarks, txnBytes, entryMarks, entryBytes}
+use Rattle.machine.specs.Sets.{equal, insertAll, find, without, anyActive}
+use Rattle.machine.specs.Calls.{Op, begin, trackKeys, trackRange, check, commit, batch, dropTxn, minimum, ofSome, on, holding}
+use Rattle.machine.specs.Serve.{entry, addKeys, addRange, withTxn, withEntry, serve}
+use Rattle.machine.specs.Table.{isMalformed, isLong, isEmptyRange, isAgain, isAbsent, isFull, passesTotal, trackPasses}
 use Rattle.machine.specs.Words.{Malformed, Long, Empty, Again, Absent, PassesTotal, newMarks, newBytes, KeysPass, RangePasses, BatchPasses, Other, Full, First, Status}
-use Rattle.machine.proofs.ListLaws.{keep-holds, sum-append}
+use Rattle.machine.proofs.ListLaws.{not-nil, keep-holds, sum-append}
 use Rattle.machine.proofs.SetLaws.{equal-refl, equal-eq, insertAll-longer, insertAll-bytes}
+use Rattle.machine.proofs.WhichLaws.{set-marks, set-bytes}
+use Rattle.machine.proofs.EntryLaws.{entry-sum}
 use Rattle.machine.proofs.ActiveLaws.{find-id, put-known-sum}
 use Rattle.machine.proofs.Rows.{rows}
 use Rattle.machine.proofs.WordLaws.{Says, says-nothing, says-or, says-and, some-means, malformed-means, long-means, empty-means, again-means, absent-means}
@@ -42,34 +45,34 @@ module _ (L : Ceilings) (s : State) (ok : MachineState L s) where
   -- what a transaction stores more, the state stores more
   grow-means : (i : Bytes) (t t' : Txn) (m b : ℕ) → find i (s .active) ≡ some t → t' .id ≡ t .id
       → txnMarks t' ≡ txnMarks t + m → txnBytes t' ≡ txnBytes t + b
-      → Says (passesTotal L (tracking s t')) (PassesTotal L s m b)
+      → Says (passesTotal L (withTxn t' s)) (PassesTotal L s m b)
   grow-means i t t' m b f q p r =
       let k = ap (λ j. find j (s .active)) (q ∙ sym (find-id i (s .active) t f)) ∙ f in
-      total-means L s (tracking s t') m b
+      total-means L s (withTxn t' s) m b
       (omega (arith, put-known-sum txnMarks t' (s .active) t k (ok .distinct), p))
       (omega (arith, put-known-sum txnBytes t' (s .active) t k (ok .distinct), r))
 
-  -- either track of keys
-  keys-full : (i bs : Bytes) (set : Txn → List Bytes) (add : List Bytes → Txn → Txn) → ((ks : List Bytes) (t : Txn) → add ks t .id ≡ t .id)
-      → ((ks : List Bytes) (t : Txn) → txnMarks (add ks t) ≡ txnMarks t + newMarks ks (set t))
-      → ((ks : List Bytes) (t : Txn) → txnBytes (add ks t) ≡ txnBytes t + newBytes ks (set t))
-      → Says (ofSome (keyList bs) λ ks. trackPasses L s i (add ks)) (KeysPass L s i bs set)
-  keys-full i bs set add same more longer =
-      Iff·trans (some-means (keyList bs) (λ ks. trackPasses L s i (add ks))) (out, back)
+  keys-full : (w : Which) (i bs : Bytes) → Says (ofSome (keyList bs) λ ks. trackPasses L s i (addKeys w ks)) (KeysPass L s i bs w)
+  keys-full w i bs = Iff·trans (some-means (keyList bs) (λ ks. trackPasses L s i (addKeys w ks))) (out, back)
     where
       grown : (ks : List Bytes) (t : Txn) → find i (s .active) ≡ some t
-          → Says (passesTotal L (tracking s (add ks t))) (PassesTotal L s (newMarks ks (set t)) (newBytes ks (set t)))
-      grown ks t f = grow-means i t (add ks t) _ _ f (same ks t) (more ks t) (longer ks t)
+          → Says (passesTotal L (withTxn (addKeys w ks t) s)) (PassesTotal L s (newMarks ks (setOf w t)) (newBytes ks (setOf w t)))
+      grown ks t f =
+          let set = setOf w t in
+          grow-means i t (addKeys w ks t) (newMarks ks set) (newBytes ks set) f refl
+          (set-marks w (insertAll ks set) t (newMarks ks set) (omega (arith, insertAll-longer ks set)))
+          (set-bytes w (insertAll ks set) t (newBytes ks set) (omega (arith, insertAll-bytes ks set)))
 
-      one : (ks : List Bytes) → Says (trackPasses L s i (add ks)) ((t : Txn) × (find i (s .active) ≡ some t) × (passesTotal L (tracking s (add ks t)) ≡ true))
-      one ks = some-means (find i (s .active)) (λ t. passesTotal L (tracking s (add ks t)))
+      one : (ks : List Bytes)
+          → Says (trackPasses L s i (addKeys w ks)) ((t : Txn) × (find i (s .active) ≡ some t) × (passesTotal L (withTxn (addKeys w ks t) s) ≡ true))
+      one ks = some-means (find i (s .active)) (λ t. passesTotal L (withTxn (addKeys w ks t) s))
 
-      out : (ks : List Bytes) × (keyList bs ≡ some ks) × (trackPasses L s i (add ks) ≡ true) → KeysPass L s i bs set
+      out : (ks : List Bytes) × (keyList bs ≡ some ks) × (trackPasses L s i (addKeys w ks) ≡ true) → KeysPass L s i bs w
       out z =
           let t = one (z .0) .0 (z .2) in
           record { keys = z .0; listed = z .1; active = record { txn = t .0; found = t .1 }; passes = grown (z .0) (t .0) (t .1) .0 (t .2) }
 
-      back : KeysPass L s i bs set → (ks : List Bytes) × (keyList bs ≡ some ks) × (trackPasses L s i (add ks) ≡ true)
+      back : KeysPass L s i bs w → (ks : List Bytes) × (keyList bs ≡ some ks) × (trackPasses L s i (addKeys w ks) ≡ true)
       back k =
           let a = k .active in
           (k .keys, k .listed, one (k .keys) .1 (a .txn, a .found, grown (k .keys) (a .txn) (a .found) .1 (k .passes)))
@@ -78,14 +81,14 @@ module _ (L : Ceilings) (s : State) (ok : MachineState L s) where
   unfolding sum
   range-full i bs = Iff·trans (some-means (boundsOf bs) (λ r. trackPasses L s i (addRange r))) (out, back)
     where
-      grown : (r : Range) (t : Txn) → find i (s .active) ≡ some t → Says (passesTotal L (tracking s (addRange r t))) (PassesTotal L s 1 (rangeBytes r))
+      grown : (r : Range) (t : Txn) → find i (s .active) ≡ some t → Says (passesTotal L (withTxn (addRange r t) s)) (PassesTotal L s 1 (rangeBytes r))
       grown r t f =
           grow-means i t (addRange r t) 1 (rangeBytes r) f refl
           (omega (arith, length-append (t .ranges) (r ∷ [])))
           (omega (arith, sum-append rangeBytes (t .ranges) (r ∷ [])))
 
-      one : (r : Range) → Says (trackPasses L s i (addRange r)) ((t : Txn) × (find i (s .active) ≡ some t) × (passesTotal L (tracking s (addRange r t)) ≡ true))
-      one r = some-means (find i (s .active)) (λ t. passesTotal L (tracking s (addRange r t)))
+      one : (r : Range) → Says (trackPasses L s i (addRange r)) ((t : Txn) × (find i (s .active) ≡ some t) × (passesTotal L (withTxn (addRange r t) s) ≡ true))
+      one r = some-means (find i (s .active)) (λ t. passesTotal L (withTxn (addRange r t) s))
 
       out : (r : Range) × (boundsOf bs ≡ some r) × (trackPasses L s i (addRange r) ≡ true) → RangePasses L s i bs
       out z =
@@ -119,20 +122,13 @@ others-mean i us = (λ e. out (without i us) refl e, λ k. back k (without i us)
         go false e = refl
     back k (w ∷ ws) p = refl
 
--- with someone active the entry is kept
-append-sum : (f : Entry → ℕ) (ts : List Txn) (es : List Entry) (e : Entry) → (ts ≡ [] → ⊥)
-    → sum f (append ts es e) ≡ sum f es + f e
-unfolding append sum
-append-sum f [] es e h = absurd (h refl)
-append-sum f (t ∷ ts) es e h = sum-append f es (e ∷ []) ∙ (omega arith)
-
 someone-means : (ts : List Txn) → Says (not (isNil ts)) (ts ≡ [] → ⊥)
 someone-means [] = (λ e q. false≢true e, λ h. absurd (h refl))
-someone-means (t ∷ ts) = (λ e q. let z : _≡_ {A = ℕ} 0 1 = cc in omega arith, λ h. refl)
+someone-means (t ∷ ts) = (λ e. not-nil t ts, λ h. refl)
 
 module _ (L : Ceilings) (s : State) (ok : MachineState L s) where
   abbrev after : ℕ → List Bytes → State
-  after n ks = entered s (entry n (insertAll ks []))
+  after n ks = withEntry (entry n (insertAll ks [])) s
 
   abbrev passing : ℕ → List Bytes → Bool
   passing n ks = ltb (L .entries) (suc (length (s .entries))) || passesTotal L (after n ks)
@@ -148,8 +144,8 @@ module _ (L : Ceilings) (s : State) (ok : MachineState L s) where
           says-or _ _ _ _
           (λ e. omega (arith, ltb-true (L .entries) (suc (length (s .entries))) e, ok .ceilings .entries), λ e. lt-ltb (L .entries) (suc (length (s .entries))) (omega (arith, e)))
           (total-means L s (after n ks) (newMarks ks []) (newBytes ks [])
-          (omega (arith, append-sum entryMarks (s .active) (s .entries) (entry n (insertAll ks [])) h))
-          (omega (arith, append-sum entryBytes (s .active) (s .entries) (entry n (insertAll ks [])) h)))
+          (omega (arith, entry-sum entryMarks (s .active) (s .entries) (entry n (insertAll ks [])) h))
+          (omega (arith, entry-sum entryBytes (s .active) (s .entries) (entry n (insertAll ks [])) h)))
 
       out : (s .active ≡ [] → ⊥) × ((ks : List Bytes) × (keyList bs ≡ some ks) × (passing n ks ≡ true)) → BatchPasses L s bs
       out z = record { keys = z .1 .0; listed = z .1 .1; someone = z .0; passes = passed (z .1 .0) (z .0) .0 (z .1 .2) }
@@ -159,14 +155,7 @@ module _ (L : Ceilings) (s : State) (ok : MachineState L s) where
 
   full-means : (c : Op) → Says (isFull L s c) (Full L s c)
   full-means (begin i) = at-most (L .active) (length (s .active)) (ok .ceilings .active)
-  full-means (trackWrites i bs) =
-      keys-full L s ok i bs (λ t. t .writes) addWrites (λ ks t. refl)
-      (λ ks t. omega (arith, insertAll-longer ks (t .writes)))
-      (λ ks t. omega (arith, insertAll-bytes ks (t .writes)))
-  full-means (trackReads i bs) =
-      keys-full L s ok i bs (λ t. t .reads) addReads (λ ks t. refl)
-      (λ ks t. omega (arith, insertAll-longer ks (t .reads)))
-      (λ ks t. omega (arith, insertAll-bytes ks (t .reads)))
+  full-means (trackKeys w i bs) = keys-full L s ok w i bs
   full-means (trackRange i bs) = range-full L s ok i bs
   full-means (check i) = says-nothing
   full-means (commit i n) =

@@ -3,16 +3,17 @@
 use Prim.Native.Nat.{ℕ}
 use mathlib.Core.Path.{_≡_, refl, sym, ap, _∙_, subst}
 use mathlib.Core.Bool.{Bool, true, false, _&&_, true≢false}
-use mathlib.Core.List.{List, [], _∷_, _++_, Memᴰ·append-left}
+use mathlib.Core.List.{List, [], _∷_, _++_, List·Memᴰ, Memᴰ·append-left}
 use mathlib.Core.Logic.{inr}
 use mathlib.Core.Option.{none, some}
 use lib.Dec.{eqb}
-use Rattle.machine.specs.State.{Bytes, Txn, Entry, State, Ceilings}
+use Rattle.machine.specs.declared.Which.{Which}
+use Rattle.machine.specs.declared.Which.the-variants.{Writes, Reads}
+use Rattle.machine.specs.State.{Bytes, Txn, Entry, State, Ceilings, newTxn}
 use Rattle.machine.specs.Sets.{equal, put, find}
 use Rattle.machine.specs.Calls.{Op, check, Call, fresh, on, Room, short, broken, holding, Answer, reply}
-use Rattle.machine.specs.Serve.{newTxn, answer, serve}
-use Rattle.machine.specs.Table.{tracking}
-use Rattle.machine.specs.History.{World, next, run, start, activeOf, Tracked, in-writes, in-reads, in-range, Conflict, endsOp, ends, Lives}
+use Rattle.machine.specs.Serve.{addKeys, withTxn, answer, serve}
+use Rattle.machine.specs.History.{World, afterCall, afterCalls, start, activeOf, InTracked, in-writes, in-reads, in-range, Conflict, endsOp, ends, Lives}
 use Rattle.machine.proofs.SetLaws.{equal-eq, insertAll-holds}
 use Rattle.machine.proofs.ActiveLaws.{find-id, put-finds, put-finds-other, without-finds, without-same}
 use Rattle.machine.proofs.Effects as E
@@ -33,13 +34,18 @@ longer t h more c =
     }
 
 module _ (L : Ceilings) (i : Bytes) (t : Txn) where
-  adds-tracked : (t' : Txn) (c : Op) (k : Bytes) → Adds L i t c t' → Tracked t k → Tracked t' k
-  adds-tracked _ _ k (E.adds-writes bs ks q l) (in-writes m) = in-writes (insertAll-holds k ks _ .1 (inr m))
-  adds-tracked _ _ k (E.adds-writes bs ks q l) (in-reads m) = in-reads m
-  adds-tracked _ _ k (E.adds-writes bs ks q l) (in-range r m e) = in-range r m e
-  adds-tracked _ _ k (E.adds-reads bs ks q l) (in-writes m) = in-writes m
-  adds-tracked _ _ k (E.adds-reads bs ks q l) (in-reads m) = in-reads (insertAll-holds k ks _ .1 (inr m))
-  adds-tracked _ _ k (E.adds-reads bs ks q l) (in-range r m e) = in-range r m e
+  adds-tracked : (t' : Txn) (c : Op) (k : Bytes) → Adds L i t c t' → InTracked t k → InTracked t' k
+  adds-tracked _ _ k (E.adds-keys w bs ks q l) (in-writes m) = in-writes (held w)
+    where
+      held : (w : Which) → List·Memᴰ k (addKeys w ks t .writes)
+      held Writes = insertAll-holds k ks _ .1 (inr m)
+      held Reads = m
+  adds-tracked _ _ k (E.adds-keys w bs ks q l) (in-reads m) = in-reads (held w)
+    where
+      held : (w : Which) → List·Memᴰ k (addKeys w ks t .reads)
+      held Writes = m
+      held Reads = insertAll-holds k ks _ .1 (inr m)
+  adds-tracked _ _ k (E.adds-keys w bs ks q l) (in-range r m e) = in-range r m e
   adds-tracked _ _ k (E.adds-range bs s q l g) (in-writes m) = in-writes m
   adds-tracked _ _ k (E.adds-range bs s q l g) (in-reads m) = in-reads m
   adds-tracked _ _ k (E.adds-range bs s q l g) (in-range r m e) = in-range r (Memᴰ·append-left (s ∷ []) m) e
@@ -82,14 +88,14 @@ module _ (L : Ceilings) (s : State) (h : List Entry) (i : Bytes) (t : Txn) (e : 
       (c : Op) (j : Bytes) (v v' : Txn) (more : List Entry)
       → find j (s .active) ≡ some v
       → Adds L j v c v'
-      → Still i t h (world (holding (tracking s v')) (h ++ more))
+      → Still i t h (world (holding (withTxn v' s)) (h ++ more))
   still-tracked c j v v' more q a = go (equal i j) refl
     where
       its-id : v' .id ≡ j
       its-id = adds-same L j v v' c a .0 ∙ sym (find-id j (s .active) v q)
 
-      go : (b : Bool) → equal i j ≡ b → Still i t h (world (holding (tracking s v')) (h ++ more))
-      go false n = found (tracking s v') more (put-finds-other i v' (s .active) (ap (equal i) its-id ∙ n))
+      go : (b : Bool) → equal i j ≡ b → Still i t h (world (holding (withTxn v' s)) (h ++ more))
+      go false n = found (withTxn v' s) more (put-finds-other i v' (s .active) (ap (equal i) its-id ∙ n))
       go true n =
           let ij = equal-eq i j n in
           let vt : v ≡ t = cc in
@@ -123,7 +129,7 @@ still-next :
     → FollowsRoom L room h
     → find i (activeOf room) ≡ some t
     → (eqb (serve L room c .status) 0 && ends i c) ≡ false
-    → Still i t h (next L (world room h) c)
+    → Still i t h (afterCall L (world room h) c)
 unfolding serve
 still-next L short h c i t f e n = absurd f
 still-next L broken h c i t f e n = absurd f
@@ -135,24 +141,24 @@ still-run :
     → FollowsWorld L w
     → find i (activeOf (w .room)) ≡ some t
     → Lives L i w cs
-    → Still i t (w .history) (run L w cs)
-unfolding run
+    → Still i t (w .history) (afterCalls L w cs)
+unfolding afterCalls
 still-run L w [] i t f e n = record { txn = t; active = e; said = λ c. c }
 still-run L w (c ∷ cs) i t f e n =
     let a = still-next L (w .room) (w .history) c i t f e (n .0) in
-    let b = still-run L (next L w c) cs i (a .txn) (next-follows L (w .room) (w .history) c f) (a .active) (n .1) in
+    let b = still-run L (afterCall L w c) cs i (a .txn) (next-follows L (w .room) (w .history) c f) (a .active) (n .1) in
     record { txn = b .txn; active = b .active; said = λ d. b .said (a .said d) }
 
 -- said after some calls from fresh, it is said after any more that do not end the transaction
 pub stays-said :
     (L : Ceilings) (n : ℕ) (cs ds : List Call) (i : Bytes) (t : Txn)
-    → find i (activeOf (run L (start n) cs .room)) ≡ some t
-    → serve L (run L (start n) cs .room) (on (check i)) .value ≡ 1
-    → Lives L i (run L (start n) cs) ds
-    → serve L (run L (run L (start n) cs) ds .room) (on (check i)) .value ≡ 1
+    → find i (activeOf (afterCalls L (start n) cs .room)) ≡ some t
+    → serve L (afterCalls L (start n) cs .room) (on (check i)) .value ≡ 1
+    → Lives L i (afterCalls L (start n) cs) ds
+    → serve L (afterCalls L (afterCalls L (start n) cs) ds .room) (on (check i)) .value ≡ 1
 stays-said L n cs ds i t e one lives =
     let f = run-follows L (start n) cs (fresh-follows L n) in
     let before = check-verdict L _ _ i t f e in
-    let s = still-run L (run L (start n) cs) ds i t f e lives in
-    let now = check-verdict L _ _ i (s .txn) (run-follows L (run L (start n) cs) ds f) (s .active) in
+    let s = still-run L (afterCalls L (start n) cs) ds i t f e lives in
+    let now = check-verdict L _ _ i (s .txn) (run-follows L (afterCalls L (start n) cs) ds f) (s .active) in
     now .conflict .1 (s .said (before .conflict .0 one))

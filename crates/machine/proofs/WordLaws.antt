@@ -13,12 +13,13 @@ use Rattle.bounds.specs.Ranges.{Range, notEmpty}
 use Rattle.ranges.specs.Made.{keyOf}
 use Rattle.fields.specs.Fields.{keyList, boundsOf}
 use Rattle.fields.specs.Forms.{shortKeys}
+use Rattle.machine.specs.Lists.{isNil}
 use Rattle.machine.specs.State.{Bytes, Txn, State, Ceilings}
 use Rattle.machine.specs.Sets.{find}
-use Rattle.machine.specs.Calls.{Op, begin, trackWrites, trackReads, trackRange, check, commit, batch, dropTxn, minimum}
+use Rattle.machine.specs.Calls.{Op, takes, ofSome}
 use Rattle.machine.specs.Serve.{isId, isNew, shortRange}
-use Rattle.machine.specs.Table.{isNil, ofSome, isNone, isMalformed, longKeys, isLong, isEmptyRange, isAgain, isAbsent}
-use Rattle.machine.specs.Words.{BadId, Malformed, LongKey, LongBound, Long, Empty, IsActive, Again, Absent}
+use Rattle.machine.specs.Table.{isNone, isMalformed, longKeys, longBound, isLong, emptyRange, isEmptyRange, isAgain, isAbsent}
+use Rattle.machine.specs.Words.{Has, BadId, BadList, BadBounds, Malformed, LongKey, LongBound, Long, EmptyRange, Empty, IsActive, Again, NotActive, Absent}
 use Rattle.machine.proofs.ListLaws.{or-cases, or-left, or-right}
 use Rattle.machine.proofs.Rows.{rows}
 
@@ -54,6 +55,14 @@ some-means {A} (some a) p = (λ e. (a, refl, e), back)
     back : (b : A) × (some a ≡ some b) × (p b ≡ true) → p a ≡ true
     back z = let q : z .0 ≡ a = (let y = z .1 in cc) in ap p (sym q) ∙ z .2
 
+-- what a call takes passes the test exactly when the words hold of it
+has-means : {A : Type 0} (o : Option A) (p : A → Bool) (P : A → Type 0) → ((a : A) → Says (p a) (P a)) → Says (ofSome o p) (Has o P)
+has-means none p P f = says-nothing
+has-means (some a) p P f = f a
+
+true-means : (b : Bool) → Says b (b ≡ true)
+true-means b = (λ e. e, λ e. e)
+
 none-means : {A : Type 0} (o : Option A) → Says (isNone o) (o ≡ none)
 none-means none = (λ e. refl, λ e. refl)
 none-means (some a) = (λ e. absurd (false≢true e), λ e. absurd (let y : _≡_ {A = ℕ} 0 1 = cc in omega arith))
@@ -77,15 +86,12 @@ id-means i = (out, λ h. back h (isId i) refl)
     back h false e = refl
 
 pub malformed-means : (c : Op) → Says (isMalformed c) (Malformed c)
-malformed-means (begin i) = id-means i
-malformed-means (trackWrites i bs) = says-or _ _ _ _ (id-means i) (none-means (keyList bs))
-malformed-means (trackReads i bs) = says-or _ _ _ _ (id-means i) (none-means (keyList bs))
-malformed-means (trackRange i bs) = says-or _ _ _ _ (id-means i) (none-means (boundsOf bs))
-malformed-means (check i) = id-means i
-malformed-means (commit i n) = id-means i
-malformed-means (batch n bs) = none-means (keyList bs)
-malformed-means (dropTxn i) = id-means i
-malformed-means minimum = says-nothing
+malformed-means c =
+    says-or _ _ _ _
+    (says-or _ _ _ _ (has-means (takes c .new) _ BadId id-means) (has-means (takes c .id) _ BadId id-means))
+    (says-or _ _ _ _
+    (has-means (takes c .list) _ BadList λ bs. none-means (keyList bs))
+    (has-means (takes c .bounds) _ BadBounds λ bs. none-means (boundsOf bs)))
 
 abbrev LongOf : ℕ → List Bytes → Type 0
 LongOf n ks = (k : Bytes) × List·Memᴰ k ks × (n < length k)
@@ -125,7 +131,7 @@ says-nand true b P Q p q = (λ e. inr (q .0 e), back)
     back (inl x) = absurd (false≢true (p .1 x))
     back (inr x) = q .1 x
 
-bounds-long : (L : Ceilings) (bs : Bytes) → Says (ofSome (boundsOf bs) λ r. not (shortRange (L .key) r)) (LongBound L bs)
+bounds-long : (L : Ceilings) (bs : Bytes) → Says (longBound L bs) (LongBound L bs)
 bounds-long L bs =
     Iff·trans (some-means (boundsOf bs) (λ r. not (shortRange (L .key) r)))
     (λ z. record { range = z .0; read = z .1; long = either (z .0) .0 (z .2) }, λ k. (k .range, k .read, either (k .range) .1 (k .long)))
@@ -134,28 +140,17 @@ bounds-long L bs =
     either r = says-nand (leb (length (keyOf (r .start))) (L .key)) (leb (length (keyOf (r .end))) (L .key)) (L .key < length (keyOf (r .start))) (L .key < length (keyOf (r .end))) (over-means (length (keyOf (r .start))) (L .key)) (over-means (length (keyOf (r .end))) (L .key))
 
 pub long-means : (L : Ceilings) (c : Op) → Says (isLong L c) (Long L c)
-long-means L (begin i) = says-nothing
-long-means L (trackWrites i bs) = keys-long L bs
-long-means L (trackReads i bs) = keys-long L bs
-long-means L (trackRange i bs) = bounds-long L bs
-long-means L (check i) = says-nothing
-long-means L (commit i n) = says-nothing
-long-means L (batch n bs) = keys-long L bs
-long-means L (dropTxn i) = says-nothing
-long-means L minimum = says-nothing
+long-means L c =
+    says-or _ _ _ _
+    (has-means (takes c .list) (longKeys L) (LongKey L) (keys-long L)) (has-means (takes c .bounds) (longBound L) (LongBound L) (bounds-long L))
 
-pub empty-means : (c : Op) → Says (isEmptyRange c) (Empty c)
-empty-means (begin i) = says-nothing
-empty-means (trackWrites i bs) = says-nothing
-empty-means (trackReads i bs) = says-nothing
-empty-means (trackRange i bs) =
+range-empty : (bs : Bytes) → Says (emptyRange bs) (EmptyRange bs)
+range-empty bs =
     Iff·trans (some-means (boundsOf bs) (λ r. not (notEmpty r)))
     (λ z. record { range = z .0; read = z .1; empty = not-true (notEmpty (z .0)) (z .2) }, λ k. (k .range, k .read, ap not (k .empty)))
-empty-means (check i) = says-nothing
-empty-means (commit i n) = says-nothing
-empty-means (batch n bs) = says-nothing
-empty-means (dropTxn i) = says-nothing
-empty-means minimum = says-nothing
+
+pub empty-means : (c : Op) → Says (isEmptyRange c) (Empty c)
+empty-means c = has-means (takes c .bounds) emptyRange EmptyRange range-empty
 
 -- ---------------------------------------------------------------- rows 3 and 1
 
@@ -175,23 +170,10 @@ nil-means [] = (λ e. refl, λ e. refl)
 nil-means (x ∷ xs) = (λ e. absurd (false≢true e), λ e. absurd (let y : _≡_ {A = ℕ} 0 1 = cc in omega arith))
 
 pub again-means : (s : State) (c : Op) → Says (isAgain s c) (Again s c)
-again-means s (begin i) = active-means s i
-again-means s (trackWrites i bs) = says-nothing
-again-means s (trackReads i bs) = says-nothing
-again-means s (trackRange i bs) = says-nothing
-again-means s (check i) = says-nothing
-again-means s (commit i n) = says-nothing
-again-means s (batch n bs) = says-nothing
-again-means s (dropTxn i) = says-nothing
-again-means s minimum = says-nothing
+again-means s c = has-means (takes c .new) _ (IsActive s) (active-means s)
 
 pub absent-means : (s : State) (c : Op) → Says (isAbsent s c) (Absent s c)
-absent-means s (begin i) = says-nothing
-absent-means s (trackWrites i bs) = new-means (find i (s .active))
-absent-means s (trackReads i bs) = new-means (find i (s .active))
-absent-means s (trackRange i bs) = new-means (find i (s .active))
-absent-means s (check i) = new-means (find i (s .active))
-absent-means s (commit i n) = new-means (find i (s .active))
-absent-means s (batch n bs) = says-nothing
-absent-means s (dropTxn i) = new-means (find i (s .active))
-absent-means s minimum = nil-means (s .active)
+absent-means s c =
+    says-or _ _ _ _
+    (has-means (takes c .id) _ (NotActive s) λ i. new-means (find i (s .active)))
+    (says-and _ _ _ _ (true-means (takes c .anyone)) (nil-means (s .active)))

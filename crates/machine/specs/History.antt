@@ -8,10 +8,10 @@ use mathlib.Core.Option.{Option, none, some}
 use lib.Dec.{eqb}
 use Rattle.bounds.specs.Ranges.{Range, holds}
 use Rattle.fields.specs.Fields.{keyList}
-use Rattle.machine.specs.State.{Bytes, Txn, Entry, State, Ceilings}
+use Rattle.machine.specs.State.{Bytes, Txn, Entry, State, Ceilings, freshState}
 use Rattle.machine.specs.Sets.{equal, insertAll, find}
-use Rattle.machine.specs.Calls.{Op, begin, trackWrites, trackReads, trackRange, check, commit, batch, dropTxn, minimum, Call, fresh, on, Room, short, broken, holding, Reply}
-use Rattle.machine.specs.Serve.{state, entry, serve}
+use Rattle.machine.specs.Calls.{Op, begin, trackKeys, trackRange, check, commit, batch, dropTxn, minimum, Call, fresh, on, endOf, ofSome, Room, short, broken, holding, Reply}
+use Rattle.machine.specs.Serve.{entry, serve}
 
 -- ---------------------------------------------------------------- the full record
 
@@ -32,8 +32,7 @@ keysIn (some ks) = insertAll ks []
 -- what a call writes, if it is answered 0
 unfoldable pub written : State → Op → List Entry
 written s (begin i) = []
-written s (trackWrites i bs) = []
-written s (trackReads i bs) = []
+written s (trackKeys w i bs) = []
 written s (trackRange i bs) = []
 written s (check i) = []
 written s (commit i n) = entry n (writesOf (find i (s .active))) ∷ []
@@ -47,20 +46,20 @@ recorded short (on c) h = h
 recorded broken (on c) h = h
 recorded (holding s) (on c) h = h ++ written s c
 
-abbrev pub next : Ceilings → World → Call → World
-next L w c =
+abbrev pub afterCall : Ceilings → World → Call → World
+afterCall L w c =
     record {
       room = serve L (w .room) c .room;
       history = cond (eqb (serve L (w .room) c .status) 0) (recorded (w .room) c (w .history)) (w .history);
     }
 
 -- "any sequence of them, refused ones included"
-unfoldable pub run : Ceilings → World → List Call → World
-run L w [] = w
-run L w (c ∷ cs) = run L (next L w c) cs
+unfoldable pub afterCalls : Ceilings → World → List Call → World
+afterCalls L w [] = w
+afterCalls L w (c ∷ cs) = afterCalls L (afterCall L w c) cs
 
 abbrev pub start : ℕ → World
-start n = record { room = holding (state n [] []); history = [] }
+start n = record { room = holding (freshState n); history = [] }
 
 abbrev pub activeOf : Room → List Txn
 activeOf short = []
@@ -70,10 +69,10 @@ activeOf (holding s) = s .active
 -- ---------------------------------------------------------------- the verdict by the record
 
 -- "a key in its write set, its read set or one of its ranges"
-pub data Tracked (t : Txn) (k : Bytes) : Type 0 where
-  in-writes : List·Memᴰ k (t .writes) → Tracked t k
-  in-reads : List·Memᴰ k (t .reads) → Tracked t k
-  in-range : (r : Range) → List·Memᴰ r (t .ranges) → holds r k ≡ true → Tracked t k
+pub data InTracked (t : Txn) (k : Bytes) : Type 0 where
+  in-writes : List·Memᴰ k (t .writes) → InTracked t k
+  in-reads : List·Memᴰ k (t .reads) → InTracked t k
+  in-range : (r : Range) → List·Memᴰ r (t .ranges) → holds r k ≡ true → InTracked t k
 
 -- "the full record .. has one whose sequence is greater than that transaction's start and that wrote" such a key
 pub record Conflict (t : Txn) (history : List Entry) : Type 0 where
@@ -82,10 +81,10 @@ pub record Conflict (t : Txn) (history : List Entry) : Type 0 where
   pub later : t .start < by .seq
   pub key : Bytes
   pub wrote : List·Memᴰ key (by .keys)
-  pub tracked : Tracked t key
+  pub tracked : InTracked t key
 
 -- "A check of an active transaction says conflict exactly when" there is one
-pub record Verdict (t : Txn) (history : List Entry) (r : Reply) : Type 0 where
+pub record SaysConflict (t : Txn) (history : List Entry) (r : Reply) : Type 0 where
   pub done : r .status ≡ 0
   pub conflict : (r .value ≡ 1) ↔ Conflict t history
   pub none : (r .value ≡ 0) ↔ (Conflict t history → ⊥)
@@ -94,15 +93,7 @@ pub record Verdict (t : Txn) (history : List Entry) (r : Reply) : Type 0 where
 
 -- "until that transaction commits or is dropped, or the room is made fresh again"
 abbrev pub endsOp : Bytes → Op → Bool
-endsOp i (begin j) = false
-endsOp i (trackWrites j bs) = false
-endsOp i (trackReads j bs) = false
-endsOp i (trackRange j bs) = false
-endsOp i (check j) = false
-endsOp i (commit j n) = equal i j
-endsOp i (batch n bs) = false
-endsOp i (dropTxn j) = equal i j
-endsOp i minimum = false
+endsOp i c = ofSome (endOf c) (equal i)
 
 abbrev pub ends : Bytes → Call → Bool
 ends i (fresh n) = true
@@ -111,4 +102,4 @@ ends i (on c) = endsOp i c
 -- none of the calls, made one after another, is answered 0 and ends the transaction
 abbrev pub Lives : Ceilings → Bytes → World → List Call → Type 0
 Lives L i w [] = Unit {0}
-Lives L i w (c ∷ cs) = ((eqb (serve L (w .room) c .status) 0 && ends i c) ≡ false) × Lives L i (next L w c) cs
+Lives L i w (c ∷ cs) = ((eqb (serve L (w .room) c .status) 0 && ends i c) ≡ false) × Lives L i (afterCall L w c) cs

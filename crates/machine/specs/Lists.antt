@@ -1,7 +1,11 @@
 -- Tests, sums and parts of a list.
 use Prim.Native.Nat.{ℕ, _+_}
-use mathlib.Core.Bool.{Bool, false, cond, _||_}
+use mathlib.Core.Bool.{Bool, true, false, cond, _||_}
 use mathlib.Core.List.{List, [], _∷_}
+
+abbrev pub isNil : {A : Type 0} → List A → Bool
+isNil [] = true
+isNil (x ∷ xs) = false
 
 unfoldable pub any : {A : Type 0} → (A → Bool) → List A → Bool
 any p [] = false

@@ -13,12 +13,12 @@ use lib.Dec.{leb, ltb}
 use lib.ListN.{length}
 use Rattle.bounds.specs.Ranges.{Range, holds}
 use Rattle.fields.specs.Fields.{keyList, boundsOf}
-use Rattle.machine.specs.Lists.{any, keep}
-use Rattle.machine.specs.State.{Bytes, Txn, Entry, State, Ceilings}
+use Rattle.machine.specs.declared.Which.the-variants.{Writes, Reads}
+use Rattle.machine.specs.Lists.{isNil, any, keep}
+use Rattle.machine.specs.State.{Bytes, Txn, Entry, State, Ceilings, newTxn, choose, withSet, withRanges}
 use Rattle.machine.specs.Sets.{equal, insertAll, put, find, without}
-use Rattle.machine.specs.Calls.{Op, begin, trackWrites, trackReads, trackRange, check, commit, batch, dropTxn, minimum, on, Room}
+use Rattle.machine.specs.Calls.{Op, begin, trackKeys, trackRange, check, commit, batch, dropTxn, minimum, on, Room}
 use Rattle.machine.specs.Serve.{serve}
-use Rattle.machine.specs.Table.{isNil}
 
 -- TransactionState of a committed one
 pub record Committed : Type 0 where
@@ -69,22 +69,19 @@ manager ts cs n = record { activeTxns = ts; recentCommittedTxns = cs; oracle = n
 
 -- new_transaction's TransactionState: `started_seq: seq`, and all sets empty
 abbrev pub newTransaction : Bytes → ℕ → Txn
-newTransaction i seq = record { id = i; start = seq; writes = []; reads = []; ranges = [] }
+newTransaction i seq = newTxn i seq
 
 -- `self.write_keys.extend(keys)`
 abbrev pub trackWriteKeys : List Bytes → Txn → Txn
-trackWriteKeys keys t =
-    record { id = t .id; start = t .start; writes = insertAll keys (t .writes); reads = t .reads; ranges = t .ranges }
+trackWriteKeys keys t = withSet Writes (insertAll keys (t .writes)) t
 
 -- `self.read_keys.extend(keys)`
 abbrev pub trackReadKeys : List Bytes → Txn → Txn
-trackReadKeys keys t =
-    record { id = t .id; start = t .start; writes = t .writes; reads = insertAll keys (t .reads); ranges = t .ranges }
+trackReadKeys keys t = withSet Reads (insertAll keys (t .reads)) t
 
 -- `self.read_ranges.push(range)`
 abbrev pub trackReadRange : Range → Txn → Txn
-trackReadRange range t =
-    record { id = t .id; start = t .start; writes = t .writes; reads = t .reads; ranges = t .ranges ++ (range ∷ []) }
+trackReadRange range t = withRanges (t .ranges ++ (range ∷ [])) t
 
 -- the lesser of a number and the least of the others, if there are others
 abbrev pub minWith : ℕ → Option ℕ → ℕ
@@ -140,8 +137,8 @@ onRange (some r) f m = f r
 
 unfoldable pub rust : Op → Manager → Manager
 rust (begin i) m = manager (put (newTransaction i (m .oracle)) (m .activeTxns)) (m .recentCommittedTxns) (m .oracle)
-rust (trackWrites i bs) m = getMut (trackWriteKeys (listed (keyList bs))) m (find i (m .activeTxns))
-rust (trackReads i bs) m = getMut (trackReadKeys (listed (keyList bs))) m (find i (m .activeTxns))
+rust (trackKeys w i bs) m =
+    getMut (choose w trackWriteKeys trackReadKeys (listed (keyList bs))) m (find i (m .activeTxns))
 rust (trackRange i bs) m = onRange (boundsOf bs) (λ r. getMut (trackReadRange r) m (find i (m .activeTxns))) m
 rust (check i) m = m
 rust (commit i n) m = commitTxn i n m (find i (m .activeTxns))
@@ -179,8 +176,7 @@ asNumber true = 1
 -- a call's value by the Rust's own functions
 abbrev pub Value : Op → Manager → ℕ → Type 0
 Value (begin i) m v = v ≡ m .oracle
-Value (trackWrites i bs) m v = Unit {0}
-Value (trackReads i bs) m v = Unit {0}
+Value (trackKeys w i bs) m v = Unit {0}
 Value (trackRange i bs) m v = Unit {0}
 Value (check i) m v = v ≡ asNumber (checkHasConflict i m)
 Value (commit i n) m v = v ≡ rust (commit i n) m .oracle

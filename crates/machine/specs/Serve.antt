@@ -10,9 +10,11 @@ use Rattle.bounds.specs.Ranges.{Range, notEmpty}
 use Rattle.ranges.specs.Made.{keyOf}
 use Rattle.fields.specs.Fields.{keyList, boundsOf}
 use Rattle.fields.specs.Forms.{shortKeys}
-use Rattle.machine.specs.State.{Bytes, Txn, Entry, State, Ceilings, txnMarks, fits}
-use Rattle.machine.specs.Sets.{insertAll, put, find, without, least, prune, append, conflict}
-use Rattle.machine.specs.Calls.{Op, begin, trackWrites, trackReads, trackRange, check, commit, batch, dropTxn, minimum, Call, fresh, on, Room, short, broken, holding, Refusal, malformed, again, long, empty, full, Answer, done, absent, refused, Reply, replied, reply, Step, _>>=_, _>>_, need, given}
+use Rattle.machine.specs.declared.Which.{Which}
+use Rattle.machine.specs.State.{Bytes, Txn, Entry, State, Ceilings, setOf, withSet, withRanges, freshState, withActive, withEntries, advanced, txnMarks, fits}
+pub use Rattle.machine.specs.State.{newTxn}
+use Rattle.machine.specs.Sets.{insertAll, put, find, without, least, pruned, emptiedIfIdle, conflict}
+use Rattle.machine.specs.Calls.{Op, begin, trackKeys, trackRange, check, commit, batch, dropTxn, minimum, Call, fresh, on, Room, short, broken, holding, Refusal, malformed, again, long, empty, full, Answer, done, absent, refused, Reply, replied, reply, Step, _>>=_, _>>_, need, given}
 
 abbrev pub state : ℕ → List Txn → List Entry → State
 state n ts es = record { last = n; active = ts; entries = es }
@@ -34,22 +36,32 @@ abbrev pub verdict : Bool → ℕ
 verdict true = 1
 verdict false = 0
 
--- "Begin: start is the last committed number, all sets empty."
-abbrev pub newTxn : Bytes → ℕ → Txn
-newTxn i n = record { id = i; start = n; writes = []; reads = []; ranges = [] }
-
 -- "Track writes or reads: add a list's keys to the set. Track range: append, repeats kept."
-abbrev pub addWrites : List Bytes → Txn → Txn
-addWrites ks t =
-    record { id = t .id; start = t .start; writes = insertAll ks (t .writes); reads = t .reads; ranges = t .ranges }
-
-abbrev pub addReads : List Bytes → Txn → Txn
-addReads ks t =
-    record { id = t .id; start = t .start; writes = t .writes; reads = insertAll ks (t .reads); ranges = t .ranges }
+abbrev pub addKeys : Which → List Bytes → Txn → Txn
+addKeys w ks t = withSet w (insertAll ks (setOf w t)) t
 
 abbrev pub addRange : Range → Txn → Txn
-addRange r t =
-    record { id = t .id; start = t .start; writes = t .writes; reads = t .reads; ranges = t .ranges ++ (r ∷ []) }
+addRange r t = withRanges (t .ranges ++ (r ∷ [])) t
+
+-- the state with this transaction active, in the place of the one that has its id, if any
+abbrev pub withTxn : Txn → State → State
+withTxn t s = withActive (put t (s .active)) s
+
+-- "Begin: start is the last committed number, all sets empty."
+abbrev pub begun : Bytes → State → State
+begun i s = withTxn (newTxn i (s .last)) s
+
+-- "its write set becomes the last entry; if nobody is active now, the list is emptied"
+abbrev pub withEntry : Entry → State → State
+withEntry e s = emptiedIfIdle (withEntries (s .entries ++ (e ∷ [])) s)
+
+-- a commit or a batch enters, `left` being active after it: "the number advances", to the larger of old and new
+abbrev pub entered : List Txn → ℕ → List Bytes → State → State
+entered left n ks s = withEntry (entry n ks) (withActive left (advanced n s))
+
+-- "Drop: remove the id if active, then prune"
+abbrev pub dropped : Bytes → State → State
+dropped i s = pruned (withActive (without i (s .active)) s)
 
 -- row 6 for every call: the state afterwards must keep the ceilings (Words.antt has document 01's words for each)
 abbrev pub settle : Ceilings → ℕ → State → Answer
@@ -61,29 +73,23 @@ settle L v s = do
 abbrev pub track : Ceilings → State → Bytes → (Txn → Txn) → Answer
 track L s i f = do
   t ← given (find i (s .active)) (absent 0 s)
-  settle L (txnMarks (f t) - txnMarks t) (state (s .last) (put (f t) (s .active)) (s .entries))
+  settle L (txnMarks (f t) - txnMarks t) (withTxn (f t) s)
 
--- a commit or a batch enters, `left` being active after it: "the number advances", to the larger of old and new
+-- "commit, batch: last number after"
 abbrev pub enter : Ceilings → State → List Txn → ℕ → List Bytes → Answer
-enter L s left n ks =
-    settle L (max (s .last) n) (state (max (s .last) n) left (append left (s .entries) (entry n ks)))
+enter L s left n ks = settle L (max (s .last) n) (entered left n ks s)
 
 unfoldable pub answer : Ceilings → State → Op → Answer
 -- "3: begin of an active id"
 answer L s (begin i) = do
   need (isId i) malformed
   need (isNew (find i (s .active))) again
-  settle L (s .last) (state (s .last) (put (newTxn i (s .last)) (s .active)) (s .entries))
-answer L s (trackWrites i bs) = do
+  settle L (s .last) (begun i s)
+answer L s (trackKeys w i bs) = do
   need (isId i) malformed
   ks ← given (keyList bs) (refused malformed)
   need (shortKeys (L .key) ks) long
-  track L s i (addWrites ks)
-answer L s (trackReads i bs) = do
-  need (isId i) malformed
-  ks ← given (keyList bs) (refused malformed)
-  need (shortKeys (L .key) ks) long
-  track L s i (addReads ks)
+  track L s i (addKeys w ks)
 answer L s (trackRange i bs) = do
   need (isId i) malformed
   r ← given (boundsOf bs) (refused malformed)
@@ -99,7 +105,7 @@ answer L s (check i) = do
 -- number advances."
 answer L s (commit i n) = do
   need (isId i) malformed
-  t ← given (find i (s .active)) (absent (max (s .last) n) (state (max (s .last) n) (s .active) (s .entries)))
+  t ← given (find i (s .active)) (absent (max (s .last) n) (advanced n s))
   enter L s (without i (s .active)) n (t .writes)
 -- "Write batch: the same with its own keys, an empty list included, and no id."
 answer L s (batch n bs) = do
@@ -109,10 +115,9 @@ answer L s (batch n bs) = do
 -- "Drop: remove the id if active, then prune, even for an unknown id."
 answer L s (dropTxn i) = do
   need (isId i) malformed
-  let left = without i (s .active)
-  let es = prune left (s .entries)
-  t ← given (find i (s .active)) (absent (length es) (state (s .last) left es))
-  done (length es) (state (s .last) left es)
+  let after = dropped i s
+  t ← given (find i (s .active)) (absent (length (after .entries)) after)
+  done (length (after .entries)) after
 -- "Minimum: smallest active start."; "1: .. minimum with nobody active"
 answer L s minimum = do
   m ← given (least (s .active)) (absent 0 s)
@@ -122,6 +127,6 @@ answer L s minimum = do
 unfoldable pub serve : Ceilings → Room → Call → Reply
 serve L short c = replied 7 0 short
 serve L broken (on c) = replied 7 0 broken
-serve L broken (fresh n) = replied 0 n (holding (state n [] []))
-serve L (holding s) (fresh n) = replied 0 n (holding (state n [] []))
+serve L broken (fresh n) = replied 0 n (holding (freshState n))
+serve L (holding s) (fresh n) = replied 0 n (holding (freshState n))
 serve L (holding s) (on c) = reply s (answer L s c)

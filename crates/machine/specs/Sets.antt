@@ -1,6 +1,6 @@
 -- What the calls do to sets, to the active transactions and to the entries.
 use Prim.Native.Nat.{ℕ, min}
-use mathlib.Core.Bool.{Bool, cond, not, _&&_, _||_}
+use mathlib.Core.Bool.{Bool, true, false, cond, not, _&&_, _||_}
 use mathlib.Core.List.{List, [], _∷_, _++_}
 use mathlib.Core.Option.{Option, none, some}
 use mathlib.Core.Ordering.{Ordering, lt, eq, gt}
@@ -8,7 +8,7 @@ use lib.Dec.{leb, ltb}
 use Rattle.keys.specs.Order.{order, isSame}
 use Rattle.bounds.specs.Ranges.{holds}
 use Rattle.machine.specs.Lists.{any, keep}
-use Rattle.machine.specs.State.{Bytes, Txn, Entry}
+use Rattle.machine.specs.State.{Bytes, Txn, Entry, State, withEntries}
 
 abbrev pub equal : Bytes → Bytes → Bool
 equal a b = isSame (order a b)
@@ -50,15 +50,28 @@ abbrev pub least : List Txn → Option ℕ
 least [] = none
 least (t ∷ ts) = some (leastOf t ts)
 
--- "Pruning keeps entries with sequence >= the smallest active start; with nobody active it empties the list."
-unfoldable pub prune : List Txn → List Entry → List Entry
-prune [] es = []
-prune (t ∷ ts) es = keep (λ e. leb (leastOf t ts) (e .seq)) es
+-- what leaves the list of entries leaves it here
+abbrev pub keepOnly : (Entry → Bool) → State → State
+keepOnly p s = withEntries (keep p (s .entries)) s
 
--- "its write set becomes the last entry; if nobody is active now, the list is emptied"
-unfoldable pub append : List Txn → List Entry → Entry → List Entry
-append [] es e = []
-append (t ∷ ts) es e = es ++ (e ∷ [])
+-- "Pruning keeps entries with sequence >= the smallest active start; with nobody active it empties the list."
+unfoldable pub inReach : List Txn → Entry → Bool
+inReach [] e = false
+inReach (t ∷ ts) e = leb (leastOf t ts) (e .seq)
+
+abbrev pub prune : List Txn → List Entry → List Entry
+prune ts es = keep (inReach ts) es
+
+abbrev pub pruned : State → State
+pruned s = keepOnly (inReach (s .active)) s
+
+-- "if nobody is active now, the list is emptied"
+unfoldable pub anyActive : List Txn → Entry → Bool
+anyActive [] e = false
+anyActive (t ∷ ts) e = true
+
+abbrev pub emptiedIfIdle : State → State
+emptiedIfIdle s = keepOnly (anyActive (s .active)) s
 
 -- a key "in the write set, read set or a range"
 unfoldable pub tracks : Txn → Bytes → Bool

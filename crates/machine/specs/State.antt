@@ -12,6 +12,8 @@ use Rattle.keys.specs.Order.{order}
 use Rattle.bounds.specs.Ranges.{Range, notEmpty}
 use Rattle.ranges.specs.Made.{keyOf}
 use Rattle.machine.specs.Lists.{sum, All}
+use Rattle.machine.specs.declared.Which.{Which}
+use Rattle.machine.specs.declared.Which.the-variants.{Writes, Reads}
 
 abbrev pub Bytes : Type 0
 Bytes = List ℕ
@@ -36,7 +38,25 @@ pub record State : Type 0 where
   pub active : List Txn
   pub entries : List Entry
 
--- a state is made by what it changes, so that a part more moves these alone
+-- a transaction and a state are made by what changes, so that a part more moves these alone
+abbrev pub newTxn : Bytes → ℕ → Txn
+newTxn i n = record { id = i; start = n; writes = []; reads = []; ranges = [] }
+
+-- the one for writes, the other for reads
+abbrev pub choose : {A : Type 0} → Which → A → A → A
+choose Writes a b = a
+choose Reads a b = b
+
+abbrev pub setOf : Which → Txn → List Bytes
+setOf w t = choose w (t .writes) (t .reads)
+
+abbrev pub withSet : Which → List Bytes → Txn → Txn
+withSet w ks t =
+    record { id = t .id; start = t .start; writes = choose w ks (t .writes); reads = choose w (t .reads) ks; ranges = t .ranges }
+
+abbrev pub withRanges : List Range → Txn → Txn
+withRanges rs t = record { id = t .id; start = t .start; writes = t .writes; reads = t .reads; ranges = rs }
+
 abbrev pub freshState : ℕ → State
 freshState n = record { last = n; active = []; entries = [] }
 

@@ -2,18 +2,24 @@
 -- first, and what is answered. Table.antt has the same conditions as tests: `malformed-means` and its like say that they agree.
 use Prim.Native.Nat.{ℕ, _+_, _-_, _<_, max}
 use mathlib.Core.Path.{_≡_}
-use mathlib.Core.Bool.{false}
+use mathlib.Core.Bool.{true, false}
 use mathlib.Core.List.{List, [], List·Memᴰ}
 use mathlib.Core.Logic.{_⊎_}
-use mathlib.Core.Option.{none, some}
+use mathlib.Core.Option.{Option, none, some}
 use lib.ListN.{length}
 use Rattle.bounds.specs.Ranges.{Range, notEmpty}
 use Rattle.ranges.specs.Made.{keyOf}
 use Rattle.fields.specs.Fields.{keyList, boundsOf}
-use Rattle.machine.specs.State.{Bytes, Txn, State, Ceilings, marks, keyBytes, setBytes, rangeBytes}
-use Rattle.machine.specs.Sets.{insertAll, find, least, prune, conflict}
-use Rattle.machine.specs.Calls.{Op, begin, trackWrites, trackReads, trackRange, check, commit, batch, dropTxn, minimum}
-use Rattle.machine.specs.Serve.{state, newTxn, verdict}
+use Rattle.machine.specs.declared.Which.{Which}
+use Rattle.machine.specs.State.{Bytes, Txn, State, Ceilings, newTxn, setOf, advanced, marks, keyBytes, setBytes, rangeBytes}
+use Rattle.machine.specs.Sets.{insertAll, find, least, pruned, conflict}
+use Rattle.machine.specs.Calls.{Op, begin, trackKeys, trackRange, check, commit, batch, dropTxn, minimum, takes}
+use Rattle.machine.specs.Serve.{verdict}
+
+-- the call takes one, and P is so of it
+abbrev pub Has : {A : Type 0} → Option A → (A → Type 0) → Type 0
+Has none P = ⊥
+Has (some a) P = P a
 
 -- ---------------------------------------------------------------- row 2
 
@@ -28,15 +34,8 @@ BadBounds bs = boundsOf bs ≡ none
 
 -- "id not 16 bytes, sequence not 8, key list or bounds badly formed" (a sequence is a number here)
 abbrev pub Malformed : Op → Type 0
-Malformed (begin i) = BadId i
-Malformed (trackWrites i bs) = BadId i ⊎ BadList bs
-Malformed (trackReads i bs) = BadId i ⊎ BadList bs
-Malformed (trackRange i bs) = BadId i ⊎ BadBounds bs
-Malformed (check i) = BadId i
-Malformed (commit i n) = BadId i
-Malformed (batch n bs) = BadList bs
-Malformed (dropTxn i) = BadId i
-Malformed minimum = ⊥
+Malformed c =
+    (Has (takes c .new) BadId ⊎ Has (takes c .id) BadId) ⊎ (Has (takes c .list) BadList ⊎ Has (takes c .bounds) BadBounds)
 
 -- ---------------------------------------------------------------- rows 4 and 5
 
@@ -54,15 +53,7 @@ pub record LongBound (L : Ceilings) (bs : Bytes) : Type 0 where
 
 -- "a key over 512 bytes"
 abbrev pub Long : Ceilings → Op → Type 0
-Long L (begin i) = ⊥
-Long L (trackWrites i bs) = LongKey L bs
-Long L (trackReads i bs) = LongKey L bs
-Long L (trackRange i bs) = LongBound L bs
-Long L (check i) = ⊥
-Long L (commit i n) = ⊥
-Long L (batch n bs) = LongKey L bs
-Long L (dropTxn i) = ⊥
-Long L minimum = ⊥
+Long L c = Has (takes c .list) (LongKey L) ⊎ Has (takes c .bounds) (LongBound L)
 
 pub record EmptyRange (bs : Bytes) : Type 0 where
   pub range : Range
@@ -71,15 +62,7 @@ pub record EmptyRange (bs : Bytes) : Type 0 where
 
 -- "range empty by the rule"
 abbrev pub Empty : Op → Type 0
-Empty (begin i) = ⊥
-Empty (trackWrites i bs) = ⊥
-Empty (trackReads i bs) = ⊥
-Empty (trackRange i bs) = EmptyRange bs
-Empty (check i) = ⊥
-Empty (commit i n) = ⊥
-Empty (batch n bs) = ⊥
-Empty (dropTxn i) = ⊥
-Empty minimum = ⊥
+Empty c = Has (takes c .bounds) EmptyRange
 
 -- ---------------------------------------------------------------- rows 3 and 1
 
@@ -89,30 +72,14 @@ pub record IsActive (s : State) (i : Bytes) : Type 0 where
 
 -- "begin of an active id"
 abbrev pub Again : State → Op → Type 0
-Again s (begin i) = IsActive s i
-Again s (trackWrites i bs) = ⊥
-Again s (trackReads i bs) = ⊥
-Again s (trackRange i bs) = ⊥
-Again s (check i) = ⊥
-Again s (commit i n) = ⊥
-Again s (batch n bs) = ⊥
-Again s (dropTxn i) = ⊥
-Again s minimum = ⊥
+Again s c = Has (takes c .new) (IsActive s)
 
 abbrev pub NotActive : State → Bytes → Type 0
 NotActive s i = find i (s .active) ≡ none
 
 -- "id isn't active, or minimum with nobody active"
 abbrev pub Absent : State → Op → Type 0
-Absent s (begin i) = ⊥
-Absent s (trackWrites i bs) = NotActive s i
-Absent s (trackReads i bs) = NotActive s i
-Absent s (trackRange i bs) = NotActive s i
-Absent s (check i) = NotActive s i
-Absent s (commit i n) = NotActive s i
-Absent s (batch n bs) = ⊥
-Absent s (dropTxn i) = NotActive s i
-Absent s minimum = s .active ≡ []
+Absent s c = Has (takes c .id) (NotActive s) ⊎ ((takes c .anyone ≡ true) × (s .active ≡ []))
 
 -- ---------------------------------------------------------------- row 6
 
@@ -128,11 +95,11 @@ abbrev pub newBytes : List Bytes → List Bytes → ℕ
 newBytes ks set = setBytes (insertAll ks set) - setBytes set
 
 -- "track that would pass a total": the keys of the list that are not in that set
-pub record KeysPass (L : Ceilings) (s : State) (i bs : Bytes) (set : Txn → List Bytes) : Type 0 where
+pub record KeysPass (L : Ceilings) (s : State) (i bs : Bytes) (w : Which) : Type 0 where
   pub keys : List Bytes
   pub listed : keyList bs ≡ some keys
   pub active : IsActive s i
-  pub passes : PassesTotal L s (newMarks keys (set (active .txn))) (newBytes keys (set (active .txn)))
+  pub passes : PassesTotal L s (newMarks keys (setOf w (active .txn))) (newBytes keys (setOf w (active .txn)))
 
 -- one mark; "a range counts both bound keys"
 pub record RangePasses (L : Ceilings) (s : State) (i bs : Bytes) : Type 0 where
@@ -157,8 +124,7 @@ pub record Other (i : Bytes) (us : List Txn) : Type 0 where
 -- "begin with 32 active; track that would pass a total; batch ..; commit with 128 entries while someone else is active"
 abbrev pub Full : Ceilings → State → Op → Type 0
 Full L s (begin i) = length (s .active) ≡ L .active
-Full L s (trackWrites i bs) = KeysPass L s i bs (λ t. t .writes)
-Full L s (trackReads i bs) = KeysPass L s i bs (λ t. t .reads)
+Full L s (trackKeys w i bs) = KeysPass L s i bs w
 Full L s (trackRange i bs) = RangePasses L s i bs
 Full L s (check i) = ⊥
 Full L s (commit i n) = (length (s .entries) ≡ L .entries) × Other i (s .active)
@@ -203,8 +169,7 @@ pub record Advanced (n : ℕ) (before after : State) (v : ℕ) : Type 0 where
 -- kept; minimum: that start"
 abbrev pub DoneValue : Op → (before after : State) → ℕ → Type 0
 DoneValue (begin i) s u v = Started i s u v
-DoneValue (trackWrites i bs) s u v = marks u ≡ marks s + v
-DoneValue (trackReads i bs) s u v = marks u ≡ marks s + v
+DoneValue (trackKeys w i bs) s u v = marks u ≡ marks s + v
 DoneValue (trackRange i bs) s u v = marks u ≡ marks s + v
 DoneValue (check i) s u v = Checked i s v
 DoneValue (commit i n) s u v = Advanced n s u v
@@ -217,23 +182,21 @@ DoneValue minimum s u v = least (s .active) ≡ some v
 -- "commit: last number after; drop: entries kept; else 0"
 abbrev pub absentValue : Op → State → ℕ
 absentValue (begin i) s = 0
-absentValue (trackWrites i bs) s = 0
-absentValue (trackReads i bs) s = 0
+absentValue (trackKeys w i bs) s = 0
 absentValue (trackRange i bs) s = 0
 absentValue (check i) s = 0
 absentValue (commit i n) s = max (s .last) n
 absentValue (batch n bs) s = 0
-absentValue (dropTxn i) s = length (prune (s .active) (s .entries))
+absentValue (dropTxn i) s = length (pruned s .entries)
 absentValue minimum s = 0
 
 -- "Status 1 leaves the room unchanged except as commit and drop say."
 abbrev pub absentState : Op → State → State
 absentState (begin i) s = s
-absentState (trackWrites i bs) s = s
-absentState (trackReads i bs) s = s
+absentState (trackKeys w i bs) s = s
 absentState (trackRange i bs) s = s
 absentState (check i) s = s
-absentState (commit i n) s = state (max (s .last) n) (s .active) (s .entries)
+absentState (commit i n) s = advanced n s
 absentState (batch n bs) s = s
-absentState (dropTxn i) s = state (s .last) (s .active) (prune (s .active) (s .entries))
+absentState (dropTxn i) s = pruned s
 absentState minimum s = s

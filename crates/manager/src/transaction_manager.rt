@@ -1,6 +1,8 @@
-ghost use Rattle.machine.specs.Calls.{fresh, on, begin, trackWrites, trackReads, trackRange, check, commit, batch, dropTxn, minimum};
+ghost use Rattle.machine.specs.declared.Which.the-variants.{Writes, Reads};
+ghost use Rattle.machine.specs.Calls.{fresh, on, begin, trackKeys, trackRange, check, commit, batch, dropTxn, minimum};
 ghost use Rattle.layout.specs.Rooms.{Served};
 use answers::Answer;
+use machine::Which;
 use room::Opened;
 use room::open;
 
@@ -30,19 +32,19 @@ pub fn drop_txn(room: &mut [u8], id: &[u8]) -> Answer
 }
 
 pub fn track_write_keys(room: &mut [u8], id: &[u8], keys: &[u8]) -> Answer
-    ensures { λ r. ⌜ Served (now (room .entry)) (on (trackWrites (now (id .entry)) (now (keys .entry)))) (r .status) (r .value) (now (room .exit)) ⌝ }
+    ensures { λ r. ⌜ Served (now (room .entry)) (on (trackKeys Writes (now (id .entry)) (now (keys .entry)))) (r .status) (r .value) (now (room .exit)) ⌝ }
 {
     match open(room) {
-        Opened::Of(view) => tracks::track_writes(room, view, id, keys),
+        Opened::Of(view) => tracks::track_keys(room, view, Which::Writes, id, keys),
         Opened::Bad => Answer::NO_STATE,
     }
 }
 
 pub fn track_read_keys(room: &mut [u8], id: &[u8], keys: &[u8]) -> Answer
-    ensures { λ r. ⌜ Served (now (room .entry)) (on (trackReads (now (id .entry)) (now (keys .entry)))) (r .status) (r .value) (now (room .exit)) ⌝ }
+    ensures { λ r. ⌜ Served (now (room .entry)) (on (trackKeys Reads (now (id .entry)) (now (keys .entry)))) (r .status) (r .value) (now (room .exit)) ⌝ }
 {
     match open(room) {
-        Opened::Of(view) => tracks::track_reads(room, view, id, keys),
+        Opened::Of(view) => tracks::track_keys(room, view, Which::Reads, id, keys),
         Opened::Bad => Answer::NO_STATE,
     }
 }

@@ -17,7 +17,7 @@ use Rattle.ranges.specs.Prefixes.{increment, raised}
 use lib.ListN.{drop}
 use Rattle.machine.specs.Lists.{any, keep, sum}
 use Rattle.machine.specs.Serve.{answer, serve}
-use Rattle.machine.specs.Sets.{insert, insertAll, put, find, without, leastOf, prune, append, tracks, conflict}
+use Rattle.machine.specs.Sets.{insert, insertAll, put, find, without, leastOf, inReach, tracks, conflict}
 use Rattle.pairs.specs.Pairs.{cases, Every}
 
 only-itself : (k l : List ℕ) → (holds (range (included k) (included k)) l ≡ true) ↔ (l ≡ k)
@@ -53,7 +53,7 @@ none-between (x ∷ k) = go (three 97 x)
 
 -- the cases of the machine, by computing what is served
 served : Every (drop 9 cases)
-unfolding order serve answer any keep sum find put without leastOf prune append tracks conflict insert insertAll
+unfolding order serve answer any keep sum find put without leastOf inReach tracks conflict insert insertAll
 served = ((refl, refl, refl), (refl, (refl, tt)))
 
 pub edges : Every cases

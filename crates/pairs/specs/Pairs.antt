@@ -14,9 +14,10 @@ use Rattle.bounds.specs.Ranges.{Range, range, holds, notEmpty, touches, unionOf
 use Rattle.ranges.specs.Made.{status}
 use Rattle.ranges.specs.Making.{newOf}
 use Rattle.ranges.specs.Prefixes.{increment, subrangeOf}
-use Rattle.machine.specs.State.{Bytes, State, base}
+use Rattle.machine.specs.declared.Which.the-variants.{Writes}
+use Rattle.machine.specs.State.{Bytes, Txn, State, base, newTxn, freshState, withLast, withActive, withEntries}
 use Rattle.machine.specs.Calls.{Room, holding, on, check, commit, dropTxn, minimum, replied}
-use Rattle.machine.specs.Serve.{state, entry, newTxn, addWrites, serve}
+use Rattle.machine.specs.Serve.{entry, addKeys, serve}
 use lib.ListN.{replicate}
 
 abbrev Key : Type 0
@@ -56,11 +57,17 @@ B = replicate 16 11
 abbrev k6b : Key
 k6b = 107 ∷ []
 
+abbrev writer : Txn
+writer = addKeys Writes (k6b ∷ []) (newTxn A 7)
+
+abbrev entered : List Txn → ℕ → State
+entered active n = withEntries (entry n (k6b ∷ []) ∷ []) (withActive active (freshState 8))
+
 abbrev alone : ℕ → State
-alone n = state 8 (addWrites (k6b ∷ []) (newTxn A 7) ∷ []) (entry n (k6b ∷ []) ∷ [])
+alone n = entered (writer ∷ []) n
 
 abbrev room : ℕ → Room
-room n = holding (state 8 (addWrites (k6b ∷ []) (newTxn A 7) ∷ newTxn B 8 ∷ []) (entry n (k6b ∷ []) ∷ []))
+room n = holding (entered (writer ∷ newTxn B 8 ∷ []) n)
 
 abbrev pub cases : List (Type 0)
 cases =
@@ -90,7 +97,7 @@ cases =
     ∷  -- "entry 8, start 7, shared key: conflict."
     (serve base (room 8) (on (check A)) ≡ replied 0 1 (room 8))
     ∷  -- "commit of an unknown id at 9 when last is 7: status 1, value 9."
-    (serve base (holding (state 7 [] [])) (on (commit A 9)) ≡ replied 1 9 (holding (state 9 [] [])))
+    (serve base (holding (freshState 7)) (on (commit A 9)) ≡ replied 1 9 (holding (withLast 9 (freshState 7))))
     ∷ []
 
 -- all statements of a list

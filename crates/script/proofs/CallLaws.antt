@@ -15,7 +15,7 @@ use Rattle.codec.specs.Formats.{number}
 use Rattle.codec.specs.Places.{Stands}
 use Rattle.codec.proofs.NumberLaws.{length-number}
 use Rattle.machine.specs.State.{State, Ceilings}
-use Rattle.machine.specs.Calls.{Op, begin, trackWrites, trackReads, trackRange, check, commit, batch, dropTxn, minimum, Call, on, holding, short, broken, replied}
+use Rattle.machine.specs.Calls.{Op, commit, batch, minimum, Call, on, holding, short, broken, replied}
 use Rattle.machine.specs.Serve.{serve, answer}
 use Rattle.layout.specs.Rooms.{Served}
 use Rattle.script.specs.Script.{withNumber, whenEmpty, commitOf, batchOf, callOf, refusedCall, asCall, called, IdEnds}

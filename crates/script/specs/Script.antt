@@ -8,7 +8,8 @@ use lib.Dec.{eqb}
 use lib.ListN.{length, take, drop}
 use Rattle.codec.specs.Codec.{Item, item, cut}
 use Rattle.codec.specs.Formats.{number}
-use Rattle.machine.specs.Calls.{Op, begin, trackWrites, trackReads, trackRange, check, commit, batch, dropTxn, minimum, Call, on}
+use Rattle.machine.specs.declared.Which.the-variants.{Writes, Reads}
+use Rattle.machine.specs.Calls.{Op, begin, trackKeys, trackRange, check, commit, batch, dropTxn, minimum, Call, on}
 
 -- what a number and the bytes that follow it make, if there is one
 abbrev pub withNumber : Item ℕ → (ℕ → List ℕ → Option Op) → Option Op
@@ -33,8 +34,8 @@ batchOf p = withNumber (number 8 .read p) λ n list. some (batch n list)
 abbrev pub callOf : ℕ → List ℕ → Option Op
 callOf tag p =
     cond (eqb tag 0x01) (some (begin p))
-    (cond (eqb tag 0x02) (some (trackWrites (take 16 p) (drop 16 p)))
-    (cond (eqb tag 0x03) (some (trackReads (take 16 p) (drop 16 p)))
+    (cond (eqb tag 0x02) (some (trackKeys Writes (take 16 p) (drop 16 p)))
+    (cond (eqb tag 0x03) (some (trackKeys Reads (take 16 p) (drop 16 p)))
     (cond (eqb tag 0x04) (some (trackRange (take 16 p) (drop 16 p)))
     (cond (eqb tag 0x05) (some (check p))
     (cond (eqb tag 0x06) (commitOf p)

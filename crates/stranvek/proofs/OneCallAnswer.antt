@@ -3,7 +3,8 @@
 use mathlib.Core.Path.{sym, _∙_}
 use denote.Ref.{now}
 use Rattle.keys.proofs.OneAnswer.{OneAnswer}
-use Rattle.machine.specs.Calls.{fresh, on, begin, trackWrites, trackReads, trackRange, commit, batch, dropTxn}
+use Rattle.machine.specs.declared.Which.the-variants.{Writes, Reads}
+use Rattle.machine.specs.Calls.{fresh, on, begin, trackKeys, trackRange, commit, batch, dropTxn}
 use Rattle.answers.proofs.OneReply.{OneReply, same-reply}
 use Rattle.stranvek.proofs.transaction_manager.stranvek_room_size.Kinds as room-size-kinds
 use Rattle.stranvek.proofs.transaction_manager.stranvek_room_size.Reads as room-size
@@ -40,10 +41,10 @@ one-new-transaction κs a x y s t p q = same-reply p q
 pub one-drop-txn : OneReply 2 drop-txn-kinds.ps drop-txn-kinds.r drop-txn.Post (λ κs a. on (dropTxn (now (a .1 .0)))) (λ κs x. x) (λ κs s. now (s .0))
 one-drop-txn κs a x y s t p q = same-reply p q
 
-pub one-track-write-keys : OneReply 3 track-write-keys-kinds.ps track-write-keys-kinds.r track-write-keys.Post (λ κs a. on (trackWrites (now (a .1 .0)) (now (a .1 .1 .0)))) (λ κs x. x) (λ κs s. now (s .0))
+pub one-track-write-keys : OneReply 3 track-write-keys-kinds.ps track-write-keys-kinds.r track-write-keys.Post (λ κs a. on (trackKeys Writes (now (a .1 .0)) (now (a .1 .1 .0)))) (λ κs x. x) (λ κs s. now (s .0))
 one-track-write-keys κs a x y s t p q = same-reply p q
 
-pub one-track-read-keys : OneReply 3 track-read-keys-kinds.ps track-read-keys-kinds.r track-read-keys.Post (λ κs a. on (trackReads (now (a .1 .0)) (now (a .1 .1 .0)))) (λ κs x. x) (λ κs s. now (s .0))
+pub one-track-read-keys : OneReply 3 track-read-keys-kinds.ps track-read-keys-kinds.r track-read-keys.Post (λ κs a. on (trackKeys Reads (now (a .1 .0)) (now (a .1 .1 .0)))) (λ κs x. x) (λ κs s. now (s .0))
 one-track-read-keys κs a x y s t p q = same-reply p q
 
 pub one-track-read-range : OneReply 3 track-read-range-kinds.ps track-read-range-kinds.r track-read-range.Post (λ κs a. on (trackRange (now (a .1 .0)) (now (a .1 .1 .0)))) (λ κs x. x) (λ κs s. now (s .0))

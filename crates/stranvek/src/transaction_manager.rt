@@ -1,7 +1,8 @@
 // The boundary of the room: each call of the manager under a C name, with its contract; the room is lent for the call.
 ghost use mathlib.Core.Path.{_≡_};
 ghost use Rattle.machine.specs.State.{base};
-ghost use Rattle.machine.specs.Calls.{fresh, on, begin, trackWrites, trackReads, trackRange, check, commit, batch, dropTxn, minimum};
+ghost use Rattle.machine.specs.declared.Which.the-variants.{Writes, Reads};
+ghost use Rattle.machine.specs.Calls.{fresh, on, begin, trackKeys, trackRange, check, commit, batch, dropTxn, minimum};
 ghost use Rattle.layout.specs.States.{roomSize};
 ghost use Rattle.layout.specs.Rooms.{Served};
 use answers::Answer;
@@ -39,14 +40,14 @@ pub extern "C" fn stranvek_drop_txn(room: &mut [u8], id: &[u8]) -> Answer
 
 #[no_mangle]
 pub extern "C" fn stranvek_track_write_keys(room: &mut [u8], id: &[u8], keys: &[u8]) -> Answer
-    ensures { λ r. ⌜ Served (now (room .entry)) (on (trackWrites (now (id .entry)) (now (keys .entry)))) (r .status) (r .value) (now (room .exit)) ⌝ }
+    ensures { λ r. ⌜ Served (now (room .entry)) (on (trackKeys Writes (now (id .entry)) (now (keys .entry)))) (r .status) (r .value) (now (room .exit)) ⌝ }
 {
     transaction_manager::track_write_keys(room, id, keys)
 }
 
 #[no_mangle]
 pub extern "C" fn stranvek_track_read_keys(room: &mut [u8], id: &[u8], keys: &[u8]) -> Answer
-    ensures { λ r. ⌜ Served (now (room .entry)) (on (trackReads (now (id .entry)) (now (keys .entry)))) (r .status) (r .value) (now (room .exit)) ⌝ }
+    ensures { λ r. ⌜ Served (now (room .entry)) (on (trackKeys Reads (now (id .entry)) (now (keys .entry)))) (r .status) (r .value) (now (room .exit)) ⌝ }
 {
     transaction_manager::track_read_keys(room, id, keys)
 }

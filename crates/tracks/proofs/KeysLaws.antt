@@ -12,12 +12,14 @@ use Rattle.fields.specs.declared.Form.{Form}
 use Rattle.fields.specs.Fields.{keyList}
 use Rattle.fields.specs.Forms.{shortKeys, formOf}
 use Rattle.machine.specs.Lists.{sum}
-use Rattle.machine.specs.State.{Bytes, State, Txn, base, marks, keyBytes, setBytes, txnMarks, txnBytes}
-use Rattle.machine.specs.Calls.{on, malformed, long, full, refused}
-use Rattle.machine.specs.Sets.{insertAll, put}
-use Rattle.machine.specs.Serve.{state, answer, track}
+use Rattle.machine.specs.declared.Which.{Which}
+use Rattle.machine.specs.State.{Bytes, Txn, base, setOf, marks, keyBytes, setBytes, txnMarks, txnBytes}
+use Rattle.machine.specs.Calls.{on, trackKeys, malformed, long, full}
+use Rattle.machine.specs.Sets.{insertAll}
+use Rattle.machine.specs.Serve.{addKeys, withTxn, answer, track}
 use Rattle.machine.proofs.ListLaws.{sum-append}
 use Rattle.machine.proofs.SetLaws.{insertAll-longer, insertAll-bytes}
+use Rattle.machine.proofs.WhichLaws.{set-marks, set-bytes, set-counts}
 use Rattle.moves.specs.Splices.{usedAfter}
 use Rattle.layout.specs.Keys.{setForm}
 use Rattle.layout.specs.Records.{txnForm}
@@ -31,32 +33,15 @@ use Rattle.places.specs.declared.finds.Place.{Place}
 use Rattle.places.specs.Finds.{Found}
 use Rattle.edits.proofs.LaidLaws.{entriesOf, activeOf}
 use Rattle.answers.proofs.FormLaws.{Listed, no-list, long-list, good-list}
-use Rattle.answers.proofs.TrackLaws.{track-absent, track-full, track-done, writes-malformed, reads-malformed, writes-long, reads-long, writes-track, reads-track}
+use Rattle.answers.proofs.TrackLaws.{track-absent, track-full, track-done, keys-malformed, keys-long, keys-track}
 use Rattle.answers.proofs.InsideLaws.{laid-within}
 use Rattle.room.specs.declared.View.{View}
 use Rattle.room.specs.Views.{Seen}
 use Rattle.tracks.specs.declared.Grown.{Grown}
-use Rattle.tracks.specs.declared.Which.{Which}
-use Rattle.tracks.specs.declared.Which.the-variants.{Writes, Reads}
-use Rattle.tracks.specs.Tracks.{tracking, setOf, addKeys, beforeSet, SetAt, Growable, SetGrown, NotGrown, GrownIs}
+use Rattle.tracks.specs.Tracks.{beforeSet, SetAt, Growable, SetGrown, NotGrown, GrownIs}
 use Rattle.answers.proofs.SeenLaws.{seen-load, seen-held}
 use Rattle.answers.proofs.FoundLaws.{within, space-left, not-found, here, found, place, laid, changed}
-use Rattle.tracks.proofs.SetLaws.{SetIn, set-in, afterSet, set-split, set-split-new, same-id, more-marks, more-bytes, set-counts}
-
--- ---- what the machine answers
-
-module _ (st : State) (i bs : Bytes) where
-  keys-malformed : (w : Which) → ((length i ≡ 16 → ⊥) ⊎ (keyList bs ≡ none)) → answer base st (tracking w i bs) ≡ refused malformed
-  keys-malformed Writes h = writes-malformed base st i bs h
-  keys-malformed Reads h = reads-malformed base st i bs h
-
-  keys-long : (w : Which) → length i ≡ 16 → Listed (keyList bs) false → answer base st (tracking w i bs) ≡ refused long
-  keys-long Writes h l = writes-long base st i bs h (l .keys) (l .is) (l .short)
-  keys-long Reads h l = reads-long base st i bs h (l .keys) (l .is) (l .short)
-
-  keys-track : (w : Which) → length i ≡ 16 → (l : Listed (keyList bs) true) → answer base st (tracking w i bs) ≡ track base st i (addKeys w (l .keys))
-  keys-track Writes h l = writes-track base st i bs h (l .keys) (l .is) (l .short)
-  keys-track Reads h l = reads-track base st i bs h (l .keys) (l .is) (l .short)
+use Rattle.tracks.proofs.SetLaws.{SetIn, set-in, afterSet, set-split, set-split-new}
 
 -- one of some counts no more than all
 one-of : (f : Txn → ℕ) (ts front : List Txn) (t : Txn) (back : List Txn) → ts ≡ front ++ (t ∷ back) → f t ≤ sum f ts
@@ -64,20 +49,23 @@ unfolding sum
 one-of f ts front t back e = rw e (omega (arith, sum-append f front (t ∷ back)))
 
 module _ {s : Bytes} {v : View} (n : Seen s v) (w : Which) (id list : Bytes) where
-  pub keys-refused : ((length id ≡ 16 → ⊥) ⊎ (Form.Malformed ≡ formOf (keyList list))) → Served s (on (tracking w id list)) 2 0 s
-  keys-refused (inl h) = refuse s (n .state) (tracking w id list) (seen-load n) malformed (keys-malformed (n .state) id list w (inl h))
-  keys-refused (inr e) = refuse s (n .state) (tracking w id list) (seen-load n) malformed (keys-malformed (n .state) id list w (inr (no-list (keyList list) e)))
+  pub keys-refused : ((length id ≡ 16 → ⊥) ⊎ (Form.Malformed ≡ formOf (keyList list))) → Served s (on (trackKeys w id list)) 2 0 s
+  keys-refused (inl h) = refuse s (n .state) (trackKeys w id list) (seen-load n) malformed (keys-malformed base (n .state) id list w (inl h))
+  keys-refused (inr e) = refuse s (n .state) (trackKeys w id list) (seen-load n) malformed (keys-malformed base (n .state) id list w (inr (no-list (keyList list) e)))
 
   module _ (h : length id ≡ 16) where
-    pub keys-too-long : Form.Long ≡ formOf (keyList list) → Served s (on (tracking w id list)) 4 0 s
-    keys-too-long e = refuse s (n .state) (tracking w id list) (seen-load n) long (keys-long (n .state) id list w h (long-list (keyList list) e))
+    pub keys-too-long : Form.Long ≡ formOf (keyList list) → Served s (on (trackKeys w id list)) 4 0 s
+    keys-too-long e = refuse s (n .state) (trackKeys w id list) (seen-load n) long (let l = long-list (keyList list) e in keys-long base (n .state) id list h w (l .keys) (l .is) (l .short))
 
     module _ (g : Form.Good ≡ formOf (keyList list)) where
       listed : Listed (keyList list) true
       listed = good-list (keyList list) g
 
-      pub keys-absent : {p : ℕ} → Found s (v .middle) (v .active) id (Place.Before p) → Served s (on (tracking w id list)) 1 0 s
-      keys-absent f = look-absent s (n .state) (tracking w id list) (seen-load n) 0 (keys-track (n .state) id list w h listed ∙ track-absent base (n .state) id (addKeys w (listed .keys)) (not-found n f))
+      tracks-on : answer base (n .state) (trackKeys w id list) ≡ track base (n .state) id (addKeys w (listed .keys))
+      tracks-on = keys-track base (n .state) id list h w (listed .keys) (listed .is) (listed .short)
+
+      pub keys-absent : {p : ℕ} → Found s (v .middle) (v .active) id (Place.Before p) → Served s (on (trackKeys w id list)) 1 0 s
+      keys-absent f = look-absent s (n .state) (trackKeys w id list) (seen-load n) 0 (tracks-on ∙ track-absent base (n .state) id (addKeys w (listed .keys)) (not-found n f))
 
       module _ {p q at : ℕ} (f : Found s (v .middle) (v .active) id (Place.Here p q)) (a : SetAt s p w at) where
         abbrev one : Txn
@@ -120,33 +108,32 @@ module _ {s : Bytes} {v : View} (n : Seen s v) (w : Which) (id list : Bytes) whe
         b = setBytes all - setBytes ks
 
         bytes-added : txnBytes (addKeys w (listed .keys) one) ≡ txnBytes one + b
-        bytes-added = more-bytes w (listed .keys) one b (omega (arith, insertAll-bytes (listed .keys) ks))
+        bytes-added = set-bytes w all one b (omega (arith, insertAll-bytes (listed .keys) ks))
 
-        pub keys-full : {s' : Bytes} → GrownIs s (v .used) at list (1024 - v .marks) (32768 - v .bytes) s' Grown.Full → Served s (on (tracking w id list)) 6 0 s'
+        pub keys-full : {s' : Bytes} → GrownIs s (v .used) at list (1024 - v .marks) (32768 - v .bytes) s' Grown.Full → Served s (on (trackKeys w id list)) 6 0 s'
         keys-full {s'} r = ends (r .is ks (listed .keys) (stands .end) (stands .part) (listed .is))
           where
             passed : (length ks + (1024 - v .marks) < length all) ⊎ (setBytes ks + (32768 - v .bytes) < setBytes all) → (base .marks < marks (n .state) + (length all - length ks)) ⊎ (base .bytes < keyBytes (n .state) + b)
             passed (inl x) = inl (omega (arith, x, n .marks, within n))
             passed (inr x) = inr (omega (arith, x, n .bytes, within n))
 
-            ends : NotGrown s ks all (1024 - v .marks) (32768 - v .bytes) s' → Served s (on (tracking w id list)) 6 0 s'
+            ends : NotGrown s ks all (1024 - v .marks) (32768 - v .bytes) s' → Served s (on (trackKeys w id list)) 6 0 s'
             ends o =
-                let em = more-marks w (listed .keys) one (length all - length ks) (omega (arith, insertAll-longer (listed .keys) ks)) in
-                let e = track-full base (n .state) id (addKeys w (listed .keys)) one (addKeys w (listed .keys) one) (length all - length ks) b (found n f) refl (same-id w (listed .keys) one) em bytes-added (seen-held n .kept) (passed (o .passes)) in
-                rw (o .same) (refuse s (n .state) (tracking w id list) (seen-load n) full (keys-track (n .state) id list w h listed ∙ e))
+                let em = set-marks w all one (length all - length ks) (omega (arith, insertAll-longer (listed .keys) ks)) in
+                let e = track-full base (n .state) id (addKeys w (listed .keys)) one (addKeys w (listed .keys) one) (length all - length ks) b (found n f) refl refl em bytes-added (seen-held n .kept) (passed (o .passes)) in
+                rw (o .same) (refuse s (n .state) (trackKeys w id list) (seen-load n) full (tracks-on ∙ e))
 
-        pub keys-done : {s' : Bytes} {k : ℕ} → GrownIs s (v .used) at list (1024 - v .marks) (32768 - v .bytes) s' (Grown.New k) → Served s (on (tracking w id list)) 0 k s'
+        pub keys-done : {s' : Bytes} {k : ℕ} → GrownIs s (v .used) at list (1024 - v .marks) (32768 - v .bytes) s' (Grown.New k) → Served s (on (trackKeys w id list)) 0 k s'
         keys-done {s'} {k} r = ends (r .is ks (listed .keys) (stands .end) (stands .part) (listed .is))
           where
-            ends : SetGrown s (v .used) at ks (stands .end) all (1024 - v .marks) (32768 - v .bytes) s' k → Served s (on (tracking w id list)) 0 k s'
+            ends : SetGrown s (v .used) at ks (stands .end) all (1024 - v .marks) (32768 - v .bytes) s' k → Served s (on (trackKeys w id list)) 0 k s'
             ends o =
                 let t' : Txn = addKeys w (listed .keys) one in
-                let i = same-id w (listed .keys) one in
-                let em = more-marks w (listed .keys) one k (o .new) in
-                let e = track-done base (n .state) id (addKeys w (listed .keys)) one t' k b (found n f) refl i em bytes-added (seen-held n .kept) (omega (arith, o .new, o .few, n .marks, within n)) (omega (arith, o .small, n .bytes, within n, insertAll-bytes (listed .keys) ks)) in
+                let em = set-marks w all one k (o .new) in
+                let e = track-done base (n .state) id (addKeys w (listed .keys)) one t' k b (found n f) refl refl em bytes-added (seen-held n .kept) (omega (arith, o .new, o .few, n .marks, within n)) (omega (arith, o .small, n .bytes, within n, insertAll-bytes (listed .keys) ks)) in
                 let gone : stands .end - at ≡ length (setForm (base .key) .write ks) = omega (arith, part-end (setForm (base .key)) (stands .part)) in
                 let fits : usedAfter (v .used) (stands .end - at) (setForm (base .key) .write all) ≤ roomSize base =
                 omega (arith, gone, set-length (base .key) ks, set-length (base .key) all, o .few, o .small, space-left n, within n, end-within, stands .part .from) in
                 let at-is : at ≡ 20 + (length (entriesOf (n .state .entries)) + length (activeOf (here n f .front))) + length (beforeSet w one) = omega (arith, a .is one q (here n f .part), place n f) in
                 let l = laid-within (here n f .front) (here n f .back) one t' (beforeSet w one) (setForm (base .key) .write ks) (afterSet w one) (laid n f) (set-split w one) (set-split-new w (listed .keys) one) at-is gone (o .spliced) fits in
-                change s s' (n .state) (state (n .state .last) (put t' (n .state .active)) (n .state .entries)) (tracking w id list) (seen-load n) (changed n f t' i l) k (keys-track (n .state) id list w h listed ∙ e)
+                change s s' (n .state) (withTxn t' (n .state)) (trackKeys w id list) (seen-load n) (changed n f t' refl l) k (tracks-on ∙ e)

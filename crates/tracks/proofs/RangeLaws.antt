@@ -14,7 +14,7 @@ use Rattle.machine.specs.Lists.{sum}
 use Rattle.machine.specs.State.{Bytes, Txn, base, marks, keyBytes, rangeBytes, txnMarks, txnBytes}
 use Rattle.machine.specs.Calls.{on, trackRange, malformed, long, empty, full}
 use Rattle.machine.specs.Sets.{put}
-use Rattle.machine.specs.Serve.{state, shortRange, addRange, track, answer}
+use Rattle.machine.specs.Serve.{shortRange, addRange, withTxn, track, answer}
 use Rattle.machine.proofs.ListLaws.{sum-append}
 use Rattle.layout.specs.Keys.{rangeForm, rangesForm}
 use Rattle.layout.specs.Records.{txnForm}
@@ -158,4 +158,4 @@ module _ {s : Bytes} {v : View} (n : Seen s v) (id bs : Bytes) where
                   let ee : q ≡ 20 + (length (entriesOf (n .state .entries)) + length (activeOf (here n f .front))) + length (txnForm (base .key) .write one) = omega (arith, pe, place n f) in
                   let ea : o .at ≡ 20 + (length (entriesOf (n .state .entries)) + length (activeOf (here n f .front))) + length (beforeRanges one) = omega (arith, ee, split-length one, part-end (rangesForm (base .key)) (o .ranges)) in
                   let l = laid-range (here n f .front) (here n f .back) one (said .r) (laid n f) written ee ea (o .spliced) (o .counted) fits in
-                  change s s' (n .state) (state (n .state .last) (put t' (n .state .active)) (n .state .entries)) (trackRange id bs) (seen-load n) (changed n f t' refl l) 1 (tracks ∙ e)
+                  change s s' (n .state) (withTxn t' (n .state)) (trackRange id bs) (seen-load n) (changed n f t' refl l) 1 (tracks ∙ e)

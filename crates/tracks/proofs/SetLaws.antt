@@ -1,12 +1,14 @@
--- The set of a transaction that a track goes to: where it stands in the record, and what its growth does to the totals.
+-- Where the set of a transaction that a track goes to stands in the record, and the bytes around it.
 use Prim.Native.Nat.{ℕ, _+_, _≤_}
 use mathlib.Core.Path.{_≡_, refl, _∙_}
 use mathlib.Core.List.{List, _++_, append-assoc}
 use native.Mathlib.Omega.{arith}
 use lib.ListN.{length, length-append}
-use Rattle.machine.specs.State.{Bytes, Txn, base, setBytes, txnMarks, txnBytes}
+use Rattle.machine.specs.declared.Which.{Which}
+use Rattle.machine.specs.declared.Which.the-variants.{Writes, Reads}
+use Rattle.machine.specs.State.{Bytes, Txn, base, setOf}
 use Rattle.machine.specs.Sets.{insertAll}
-use Rattle.machine.specs.Serve.{addWrites, addReads}
+use Rattle.machine.specs.Serve.{addKeys}
 use Rattle.codec.specs.Formats.{number}
 use Rattle.codec.proofs.NumberLaws.{length-number}
 use Rattle.layout.specs.Keys.{setForm, rangesForm}
@@ -15,9 +17,7 @@ use Rattle.layout.specs.Places.{Part, Ends}
 use Rattle.layout.proofs.PartLaws.{part-end}
 use Rattle.layout.proofs.OpenLaws.{OpenTxn, open-txn}
 use Rattle.answers.proofs.InsideLaws.{txn-bytes}
-use Rattle.tracks.specs.declared.Which.{Which}
-use Rattle.tracks.specs.declared.Which.the-variants.{Writes, Reads}
-use Rattle.tracks.specs.Tracks.{setOf, addKeys, beforeSet, SetAt}
+use Rattle.tracks.specs.Tracks.{beforeSet, SetAt}
 
 -- ---- where it stands
 
@@ -64,23 +64,5 @@ set-split Writes t = txn-bytes t ∙ simp append-assoc
 set-split Reads t = txn-bytes t ∙ simp append-assoc
 
 pub set-split-new : (w : Which) (ks : List Bytes) (t : Txn) → txnForm (base .key) .write (addKeys w ks t) ≡ beforeSet w t ++ (setForm (base .key) .write (insertAll ks (setOf w t)) ++ afterSet w t)
-set-split-new Writes ks t = set-split Writes (addWrites ks t)
-set-split-new Reads ks t = set-split Reads (addReads ks t)
-
-pub same-id : (w : Which) (ks : List Bytes) (t : Txn) → addKeys w ks t .id ≡ t .id
-same-id Writes ks t = refl
-same-id Reads ks t = refl
-
--- ---- the totals
-
-pub more-marks : (w : Which) (ks : List Bytes) (t : Txn) (m : ℕ) → length (insertAll ks (setOf w t)) ≡ length (setOf w t) + m → txnMarks (addKeys w ks t) ≡ txnMarks t + m
-more-marks Writes ks t m e = omega (arith, e)
-more-marks Reads ks t m e = omega (arith, e)
-
-pub more-bytes : (w : Which) (ks : List Bytes) (t : Txn) (b : ℕ) → setBytes (insertAll ks (setOf w t)) ≡ setBytes (setOf w t) + b → txnBytes (addKeys w ks t) ≡ txnBytes t + b
-more-bytes Writes ks t b e = omega (arith, e)
-more-bytes Reads ks t b e = omega (arith, e)
-
-pub set-counts : (w : Which) (t : Txn) → (length (setOf w t) ≤ txnMarks t) × (setBytes (setOf w t) ≤ txnBytes t)
-set-counts Writes t = (omega arith, omega arith)
-set-counts Reads t = (omega arith, omega arith)
+set-split-new Writes ks t = set-split Writes (addKeys Writes ks t)
+set-split-new Reads ks t = set-split Reads (addKeys Reads ks t)

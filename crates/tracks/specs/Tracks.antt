@@ -1,4 +1,4 @@
--- Tracks of keys: which set of a transaction they go to, where it stands, and what it is when the keys of a list are added.
+-- Tracks of keys: where the set that they go to stands in a transaction's record, and what it is when the keys of a list are added.
 use Prim.Native.Nat.{ℕ, _+_, _-_, _*_, _≤_, _<_}
 use mathlib.Core.Path.{_≡_}
 use mathlib.Core.Bool.{true}
@@ -8,30 +8,16 @@ use mathlib.Core.Option.{some}
 use lib.ListN.{length}
 use Rattle.fields.specs.Fields.{keyList}
 use Rattle.fields.specs.Forms.{shortKeys}
+use Rattle.machine.specs.declared.Which.{Which}
+use Rattle.machine.specs.declared.Which.the-variants.{Writes, Reads}
 use Rattle.machine.specs.State.{Bytes, Txn, base, setBytes}
 use Rattle.machine.specs.Sets.{insertAll}
-use Rattle.machine.specs.Calls.{Op, trackWrites, trackReads}
-use Rattle.machine.specs.Serve.{addWrites, addReads}
 use Rattle.codec.specs.Formats.{number}
 use Rattle.moves.specs.Splices.{Spliced}
 use Rattle.layout.specs.Keys.{setForm}
 use Rattle.layout.specs.Records.{txnForm}
 use Rattle.layout.specs.Places.{Part}
 use Rattle.tracks.specs.declared.Grown.{Grown}
-use Rattle.tracks.specs.declared.Which.{Which}
-use Rattle.tracks.specs.declared.Which.the-variants.{Writes, Reads}
-
-abbrev pub tracking : Which → Bytes → Bytes → Op
-tracking Writes i bs = trackWrites i bs
-tracking Reads i bs = trackReads i bs
-
-abbrev pub setOf : Which → Txn → List Bytes
-setOf Writes t = t .writes
-setOf Reads t = t .reads
-
-abbrev pub addKeys : Which → List Bytes → Txn → Txn
-addKeys Writes ks t = addWrites ks t
-addKeys Reads ks t = addReads ks t
 
 -- the bytes of a transaction's record before the set
 abbrev pub beforeSet : Which → Txn → Bytes

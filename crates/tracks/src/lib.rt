@@ -1,11 +1,11 @@
 // Tracks of keys: those that an active transaction reads and writes, put into its record.
 ghost use Rattle.machine.specs.State.{base};
-ghost use Rattle.machine.specs.Calls.{on, trackWrites, trackReads};
+ghost use Rattle.machine.specs.Calls.{on, trackKeys};
 ghost use Rattle.layout.specs.Records.{txnForm};
 ghost use Rattle.layout.specs.Rooms.{Served};
 ghost use Rattle.layout.specs.Places.{Here};
 ghost use Rattle.room.specs.Views.{Seen};
-ghost use Rattle.tracks.specs.Tracks.{tracking, SetAt, Growable, GrownIs};
+ghost use Rattle.tracks.specs.Tracks.{SetAt, Growable, GrownIs};
 use crate::drafts::Drafted;
 use crate::drafts::draft_keys;
 use answers::Answer;
@@ -15,6 +15,7 @@ use fields::check_keys;
 use layout::COUNT;
 use layout::ID;
 use layout::WRITES;
+use machine::Which;
 use moves::copy_in;
 use moves::splice;
 use places::finds::Place;
@@ -61,12 +62,6 @@ fn grow_set(
     }
 }
 
-// The set that the keys of a list go to.
-enum Which {
-    Writes,
-    Reads,
-}
-
 // Where that set of the transaction at a place stands.
 fn set_at(room: &[u8], txn: usize, which: Which) -> usize
     requires { ⌜ Here (txnForm (base .key)) (now room) txn ⌝ }
@@ -78,9 +73,10 @@ fn set_at(room: &[u8], txn: usize, which: Which) -> usize
     }
 }
 
-fn track_keys(room: &mut [u8], v: View, which: Which, id: &[u8], list: &[u8]) -> Answer
+// Adds the keys of a list to a set of a transaction.
+pub fn track_keys(room: &mut [u8], v: View, which: Which, id: &[u8], list: &[u8]) -> Answer
     requires { ⌜ Seen (now room) v ⌝ }
-    ensures { λ r. ⌜ Served (now (room .entry)) (on (tracking which (now (id .entry)) (now (list .entry)))) (r .status) (r .value) (now (room .exit)) ⌝ }
+    ensures { λ r. ⌜ Served (now (room .entry)) (on (trackKeys which (now (id .entry)) (now (list .entry)))) (r .status) (r .value) (now (room .exit)) ⌝ }
 {
     let used = v.used;
     let middle = v.middle;
@@ -116,20 +112,4 @@ fn track_keys(room: &mut [u8], v: View, which: Which, id: &[u8], list: &[u8]) ->
         Form::Long => return Answer::LONG,
         Form::Malformed => return Answer::MALFORMED,
     }
-}
-
-// Adds the keys of a list to the write set of a transaction.
-pub fn track_writes(room: &mut [u8], v: View, id: &[u8], list: &[u8]) -> Answer
-    requires { ⌜ Seen (now room) v ⌝ }
-    ensures { λ r. ⌜ Served (now (room .entry)) (on (trackWrites (now (id .entry)) (now (list .entry)))) (r .status) (r .value) (now (room .exit)) ⌝ }
-{
-    track_keys(room, v, Which::Writes, id, list)
-}
-
-// Adds the keys of a list to the read set of a transaction.
-pub fn track_reads(room: &mut [u8], v: View, id: &[u8], list: &[u8]) -> Answer
-    requires { ⌜ Seen (now room) v ⌝ }
-    ensures { λ r. ⌜ Served (now (room .entry)) (on (trackReads (now (id .entry)) (now (list .entry)))) (r .status) (r .value) (now (room .exit)) ⌝ }
-{
-    track_keys(room, v, Which::Reads, id, list)
 }

@@ -1,4 +1,5 @@
-use Rattle.machine.specs.Calls.{trackReads}
+use Rattle.machine.specs.declared.Which.the-variants.{Reads}
+use Rattle.machine.specs.Calls.{trackKeys}
 use Rattle.script.proofs.CallLaws.{served-as, split-as}
 use borrow.Author.Needs.{needs}
 use Rattle.script.proofs.served.serve_reads.Statement.{statement}
@@ -46,7 +47,7 @@ same-length c = search needs
 
 -- src/served.rt:61:1
 returns : tie.Need-returns
-returns c = served-as (split-as trackReads (c .before .before .before .before .before .before .id-end .ensures)) (c .before .before .track-read-keys .ensures)
+returns c = served-as (split-as (trackKeys Reads) (c .before .before .before .before .before .before .id-end .ensures)) (c .before .before .track-read-keys .ensures)
 
 pub serve-reads-spec : {M : Type 1} → statement M
 serve-reads-spec =

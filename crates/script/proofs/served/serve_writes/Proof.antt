@@ -1,4 +1,5 @@
-use Rattle.machine.specs.Calls.{trackWrites}
+use Rattle.machine.specs.declared.Which.the-variants.{Writes}
+use Rattle.machine.specs.Calls.{trackKeys}
 use Rattle.script.proofs.CallLaws.{served-as, split-as}
 use borrow.Author.Needs.{needs}
 use Rattle.script.proofs.served.serve_writes.Statement.{statement}
@@ -46,7 +47,7 @@ same-length c = search needs
 
 -- src/served.rt:54:1
 returns : tie.Need-returns
-returns c = served-as (split-as trackWrites (c .before .before .before .before .before .before .id-end .ensures)) (c .before .before .track-write-keys .ensures)
+returns c = served-as (split-as (trackKeys Writes) (c .before .before .before .before .before .before .id-end .ensures)) (c .before .before .track-write-keys .ensures)
 
 pub serve-writes-spec : {M : Type 1} → statement M
 serve-writes-spec =
