@@ -1,5 +1,5 @@
 -- The least start: as far as the search has come, and that it is the machine's.
-use Prim.Native.Nat.{ℕ, _+_, _-_, _≤_, min}
+use Prim.Native.Nat.{ℕ, _+_, _≤_, min}
 use mathlib.Core.Path.{_≡_, refl, sym, ap, _∙_}
 use mathlib.Core.List.{List, [], _∷_, _++_, append-assoc, List·Memᴰ·head}
 use native.Mathlib.Omega.{arith}
@@ -12,27 +12,29 @@ use Rattle.layout.specs.Records.{txnForm}
 use Rattle.layout.specs.Places.{Rows, Ends}
 use Rattle.layout.proofs.PartLaws.{number-read-is}
 use Rattle.layout.proofs.OpenLaws.{open-txn}
+use Rattle.places.specs.declared.cursor.Cursor.{Cursor}
+use Rattle.places.specs.Cursors.{past}
 use Rattle.places.specs.Finds.{lowest, LowestIs}
 use Rattle.places.proofs.SplitLaws.{split-one, Search, Turn, start, over, next}
 
 abbrev pub Lower : ℕ → ℕ → List Txn → List Txn → Type 0
 Lower most low front rest = lowest most (front ++ rest) ≡ lowest low rest
 
-abbrev pub Low : List ℕ → ℕ → ℕ → ℕ → ℕ → ℕ → ℕ → Type 0
-Low s at n most e left low = Search (txnForm (base .key)) (Lower most low) s at n e left
+abbrev pub Low : List ℕ → ℕ → ℕ → ℕ → Cursor → ℕ → Type 0
+Low s at n most c low = Search (txnForm (base .key)) (Lower most low) s at n c
 
-pub low-start : {s : List ℕ} {at n : ℕ} (most : ℕ) → Rows (txnForm (base .key)) s at n → Low s at n most at n most
-low-start most x = start (txnForm (base .key)) (Lower most most) (λ xs. refl) x
+pub low-start : {s : List ℕ} {at n : ℕ} {c : Cursor} (most : ℕ) → Rows (txnForm (base .key)) s at n → (c .at ≡ at) × (c .left ≡ n) → Low s at n most c most
+low-start most x q = start (txnForm (base .key)) (Lower most most) (λ xs. refl) x q
 
-pub low-next : {s : List ℕ} {at n e left r : ℕ} (most low v l : ℕ) → Turn (txnForm (base .key)) (Lower most low) s at n e left → Ends (txnForm (base .key)) s e r → Stands (number 8) s (e + 16) v (e + 16 + 8) → l ≡ min low v
-    → Low s at n most r (left - 1) l
+pub low-next : {s : List ℕ} {at n r : ℕ} {c d : Cursor} (most low v l : ℕ) → Turn (txnForm (base .key)) (Lower most low) s at n c → Ends (txnForm (base .key)) s (c .at) r → Stands (number 8) s (c .at + 16) v (c .at + 16 + 8) → l ≡ min low v
+    → d ≡ past c r → Low s at n most d l
 unfolding lowest
-low-next most low v l t p w q =
-    let i : v ≡ t .one .start = number-read-is 8 (open-txn (base .key) (t .walk .after .first) .start-at) w in
+low-next most low v l t p w q z =
+    let i : v ≡ t .one .start = number-read-is 8 (open-txn (base .key) (t .walk .after .row .first) .start-at) w in
     let j : min low (t .one .start) ≡ l = ap (min low) (sym i) ∙ sym q in
-    next (txnForm (base .key)) (Lower most low) (Lower most l) t p (rw append-assoc (t .holds ∙ ap (λ (m : ℕ). lowest m (t .back)) j))
+    next (txnForm (base .key)) (Lower most low) (Lower most l) t p z (rw append-assoc (t .holds ∙ ap (λ (m : ℕ). lowest m (t .back)) j))
 
-pub low-end : {s : List ℕ} {at n e left : ℕ} (most low : ℕ) → Low s at n most e left low → left ≤ 0 → LowestIs s at n most low
+pub low-end : {s : List ℕ} {at n : ℕ} {c : Cursor} (most low : ℕ) → Low s at n most c low → c .left ≤ 0 → LowestIs s at n most low
 unfolding lowest
 low-end most low x h =
     let t = over (txnForm (base .key)) (Lower most low) x h in

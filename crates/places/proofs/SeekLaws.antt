@@ -20,6 +20,8 @@ use Rattle.layout.specs.Records.{txnForm}
 use Rattle.layout.specs.Places.{Rows, Here, Ends}
 use Rattle.layout.proofs.OpenLaws.{open-txn}
 use Rattle.places.specs.declared.finds.Place.{Place}
+use Rattle.places.specs.declared.cursor.Cursor.{Cursor}
+use Rattle.places.specs.Cursors.{past}
 use Rattle.places.specs.Finds.{Passed, Found}
 use Rattle.places.proofs.SplitLaws.{split-one, Search, Turn, start, over, next}
 
@@ -30,19 +32,19 @@ idAt s e = take (e + 16 - e) (drop e s)
 abbrev pub Past : Bytes → List Txn → List Txn → Type 0
 Past id front rest = Passed id front
 
-abbrev pub Seek : List ℕ → ℕ → ℕ → Bytes → ℕ → ℕ → Type 0
-Seek s at n id e left = Search (txnForm (base .key)) (Past id) s at n e left
+abbrev pub Seek : List ℕ → ℕ → ℕ → Bytes → Cursor → Type 0
+Seek s at n id c = Search (txnForm (base .key)) (Past id) s at n c
 
-pub seek-start : {s : List ℕ} {at n : ℕ} (id : Bytes) → Rows (txnForm (base .key)) s at n → Seek s at n id at n
-seek-start id x = start (txnForm (base .key)) (Past id) (λ xs. tt) x
+pub seek-start : {s : List ℕ} {at n : ℕ} {c : Cursor} (id : Bytes) → Rows (txnForm (base .key)) s at n → (c .at ≡ at) × (c .left ≡ n) → Seek s at n id c
+seek-start id x q = start (txnForm (base .key)) (Past id) (λ xs. tt) x q
 
-pub seek-end : {s : List ℕ} {at n : ℕ} (id : Bytes) {e left : ℕ} → Seek s at n id e left → left ≤ 0 → Found s at n id (Place.Before e)
+pub seek-end : {s : List ℕ} {at n : ℕ} {c : Cursor} (id : Bytes) → Seek s at n id c → c .left ≤ 0 → Found s at n id (Place.Before (c .at))
 seek-end id x h =
     let t = over (txnForm (base .key)) (Past id) x h in
     record {
       is = λ ts f r l.
           let o = split-one (txnForm (base .key)) (t .walk) ts f r l in
-          record { front = t .front; back = []; whole = o .0; before = t .walk .before; after = rw (o .1) (t .walk .after); passed = t .holds; stops = tt };
+          record { front = t .front; back = []; whole = o .0; before = t .walk .before; after = rw (o .1) (t .walk .after .row); passed = t .holds; stops = tt };
     }
 
 pub txn-inside : {s : List ℕ} {e : ℕ} → Here (txnForm (base .key)) s e → e + 24 ≤ length s
@@ -68,11 +70,11 @@ is-more {o} e h k = go o (on-lt o e h) (λ q. k (ap (ofZ w8) e ∙ q))
     go eq q n = absurd (n refl)
     go gt q n = refl
 
-module _ {s : List ℕ} {at n : ℕ} (id : Bytes) {e left : ℕ} (t : Turn (txnForm (base .key)) (Past id) s at n e left) where
-  id-is : (o : Ordering) → order id (idAt s e) ≡ o → order id (t .one .id) ≡ o
-  id-is o q = ap (order id) (sym (open-txn (base .key) (t .walk .after .first) .id-at) ∙ drop-take e (e + 16) s) ∙ q
+module _ {s : List ℕ} {at n : ℕ} (id : Bytes) {c : Cursor} (t : Turn (txnForm (base .key)) (Past id) s at n c) where
+  id-is : (o : Ordering) → order id (idAt s (c .at)) ≡ o → order id (t .one .id) ≡ o
+  id-is o q = ap (order id) (sym (open-txn (base .key) (t .walk .after .row .first) .id-at) ∙ drop-take (c .at) (c .at + 16) s) ∙ q
 
-  pub seek-before : order id (idAt s e) ≡ lt → Found s at n id (Place.Before e)
+  pub seek-before : order id (idAt s (c .at)) ≡ lt → Found s at n id (Place.Before (c .at))
   seek-before q =
       record {
         is = λ ts f r l.
@@ -82,19 +84,19 @@ module _ {s : List ℕ} {at n : ℕ} (id : Bytes) {e left : ℕ} (t : Turn (txnF
               back = t .one ∷ t .back;
               whole = o .0;
               before = t .walk .before;
-              after = rw (o .1) (t .walk .after);
+              after = rw (o .1) (t .walk .after .row);
               passed = t .holds;
               stops = id-is lt q;
             };
       }
 
-  pub seek-next : {r : ℕ} → Ends (txnForm (base .key)) s e r → order id (idAt s e) ≡ gt → Seek s at n id r (left - 1)
-  seek-next p q = next (txnForm (base .key)) (Past id) (Past id) t p (all-append (λ u. order id (u .id) ≡ gt) (t .front) (t .one ∷ []) (t .holds) (id-is gt q, tt))
+  pub seek-next : {d : Cursor} {r : ℕ} → Ends (txnForm (base .key)) s (c .at) r → order id (idAt s (c .at)) ≡ gt → d ≡ past c r → Seek s at n id d
+  seek-next p q j = next (txnForm (base .key)) (Past id) (Past id) t p j (all-append (λ u. order id (u .id) ≡ gt) (t .front) (t .one ∷ []) (t .holds) (id-is gt q, tt))
 
-  pub seek-found : {r : ℕ} → Ends (txnForm (base .key)) s e r → order id (idAt s e) ≡ eq → Found s at n id (Place.Here e r)
+  pub seek-found : {r : ℕ} → Ends (txnForm (base .key)) s (c .at) r → order id (idAt s (c .at)) ≡ eq → Found s at n id (Place.Here (c .at) r)
   seek-found {r} p q =
       let w = t .walk in
-      let j : r ≡ w .after .end = p .is (t .one) (w .after .end) (w .after .first) in
+      let j : r ≡ w .after .row .end = p .is (t .one) (w .after .row .end) (w .after .row .first) in
       record {
         is = λ ts f r' l.
             let o = split-one (txnForm (base .key)) w ts f r' l in
@@ -104,8 +106,8 @@ module _ {s : List ℕ} {at n : ℕ} (id : Bytes) {e left : ℕ} (t : Turn (txnF
               back = t .back;
               whole = o .0;
               before = w .before;
-              part = rw j (w .after .first);
-              after = rw (j, o .1) (w .after .rest);
+              part = rw j (w .after .row .first);
+              after = rw (j, o .1) (w .after .row .rest);
               same = id-is eq q;
               passed = t .holds;
             };

@@ -1,4 +1,5 @@
 // Looking through the active transactions of a room.
+use crate::cursor::Cursor;
 use crate::skips::txn_past;
 use codec::numbers::read_eight;
 use keys::compare;
@@ -21,22 +22,21 @@ pub fn find_txn(room: &[u8], at: usize, n: usize, id: &[u8]) -> Place
     requires { ⌜ Rows (txnForm (base .key)) (now room) at n ⌝ }
     ensures { λ r. ⌜ Found (now (room .entry)) at n (now (id .entry)) r ⌝ }
 {
-    let mut e = at;
-    let mut left = n;
-    while 0 < left {
-        let id_end = e + ID;
-        let sign = compare(id, &room[e..id_end]);
+    let mut c = Cursor::new(at, n);
+    while 0 < c.left {
+        let from = c.at;
+        let id_end = from + ID;
+        let sign = compare(id, &room[from..id_end]);
         if sign < 0 {
-            return Place::Before(e);
+            return Place::Before(from);
         }
-        let end = txn_past(room, e);
+        let end = txn_past(room, from);
         if sign == 0 {
-            return Place::Here { at: e, end };
+            return Place::Here { at: from, end };
         }
-        e = end;
-        left -= 1;
+        c = c.past(end);
     }
-    Place::Before(e)
+    Place::Before(c.at)
 }
 
 fn lesser(a: u64, b: u64) -> u64
@@ -50,13 +50,11 @@ pub fn least_start(room: &[u8], at: usize, n: usize, most: u64) -> u64
     requires { ⌜ Rows (txnForm (base .key)) (now room) at n ⌝ }
     ensures { λ r. ⌜ LowestIs (now (room .entry)) at n most r ⌝ }
 {
-    let mut e = at;
-    let mut left = n;
+    let mut c = Cursor::new(at, n);
     let mut low = most;
-    while 0 < left {
-        low = lesser(low, read_eight(room, e + ID));
-        e = txn_past(room, e);
-        left -= 1;
+    while 0 < c.left {
+        low = lesser(low, read_eight(room, c.at + ID));
+        c = c.past(txn_past(room, c.at));
     }
     low
 }

@@ -1,4 +1,5 @@
 // Where the record at a place ends.
+use crate::cursor::Cursor;
 use codec::numbers::read_two;
 use layout::WRITES;
 ghost use Prim.Native.Nat.{_+_};
@@ -18,13 +19,11 @@ pub fn set_past(room: &[u8], at: usize) -> usize
     requires { ⌜ Here (setForm (base .key)) (now room) at ⌝ }
     ensures { λ r. ⌜ Ends (setForm (base .key)) (now (room .entry)) at r ⌝ }
 {
-    let mut e = at + 2;
-    let mut left = read_two(room, at);
-    while 0 < left {
-        e = key_past(room, e);
-        left -= 1;
+    let mut c = Cursor::of_list(room, at);
+    while 0 < c.left {
+        c = c.past(key_past(room, c.at));
     }
-    e
+    c.at
 }
 
 pub fn bound_past(room: &[u8], at: usize) -> usize
@@ -45,13 +44,11 @@ pub fn ranges_past(room: &[u8], at: usize) -> usize
     requires { ⌜ Here (rangesForm (base .key)) (now room) at ⌝ }
     ensures { λ r. ⌜ Ends (rangesForm (base .key)) (now (room .entry)) at r ⌝ }
 {
-    let mut e = at + 2;
-    let mut left = read_two(room, at);
-    while 0 < left {
-        e = range_past(room, e);
-        left -= 1;
+    let mut c = Cursor::of_list(room, at);
+    while 0 < c.left {
+        c = c.past(range_past(room, c.at));
     }
-    e
+    c.at
 }
 
 pub fn entry_past(room: &[u8], at: usize) -> usize

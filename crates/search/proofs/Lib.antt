@@ -1,5 +1,4 @@
-pub mod MarkLaws
-pub mod CursorLaws
+pub mod LeftLaws
 pub mod TrackLaws
 pub mod WalkLaws
 pub mod SearchLaws

@@ -18,12 +18,14 @@ use Rattle.layout.specs.Records.{entryForm, txnForm}
 use Rattle.layout.specs.Places.{Part, Row, Here, Rows, Ends}
 use Rattle.layout.proofs.PartLaws.{number-read-is}
 use Rattle.layout.proofs.OpenLaws.{open-set, open-entry, open-txn}
-use Rattle.search.specs.declared.cursor.Cursor.{Cursor}
+use Rattle.places.specs.declared.cursor.Cursor.{Cursor}
+use Rattle.places.specs.Cursors.{past, CountAt, Before}
+use Rattle.places.proofs.CursorLaws.{before-list}
+use Rattle.places.proofs.MarkLaws.{key-part}
 use Rattle.search.specs.declared.marks.Marks.{Marks}
 use Rattle.search.specs.Marks.{Mark, meets}
-use Rattle.search.specs.Cursors.{past, CountAt, Before, marksLeft, Left, Stays, Tracked, Nexts, Meets, Verdict}
-use Rattle.search.proofs.MarkLaws.{key-part}
-use Rattle.search.proofs.CursorLaws.{before-list, left-count}
+use Rattle.search.specs.Search.{marksLeft, Left, Stays, MarksAt, Nexts, Meets, Searched}
+use Rattle.search.proofs.LeftLaws.{left-count}
 use Rattle.search.proofs.TrackLaws.{tracks-marks}
 use Rattle.search.proofs.WalkLaws.{Walk, Head, walk-head, walk-over, head-hit, head-miss, cursor-head, cursor-over, cursor-here, cursor-next}
 
@@ -58,7 +60,7 @@ marks-head {s} {m} w h = walk-head w (omega (arith, left-count s m (w .rest) (w 
     some (suc n) e = omega arith
 
 module _ (s : List ℕ) (txn at : ℕ) (m : Marks) where
-  pub marks-start : Tracked s txn m → MarksWalk s txn at m
+  pub marks-start : MarksAt s txn m → MarksWalk s txn at m
   marks-start w = record { is = λ t f k g p q. record { rest = _; here = w .is t f p; says = tracks-marks t k } }
 
   pub marks-stay : MarksWalk s txn at m → Here (txnForm (base .key)) s txn → Here (keyForm (base .key)) s at → eqb (marksLeft m) 0 ≡ false → Stays s m
@@ -130,7 +132,7 @@ module _ (s : List ℕ) (at entries txn : ℕ) where
     pub entries-here : Rows (entryForm (base .key)) s at entries → Here (txnForm (base .key)) s txn → 0 < c .left → Here (entryForm (base .key)) s (c .at)
     entries-here r t h = cursor-here (w .is (r .vals) (r .end) (t .val) (t .end) (r .row) (r .count) (t .part)) h
 
-    pub entries-none : c .left ≤ 0 → Verdict s at entries txn false
+    pub entries-none : c .left ≤ 0 → Searched s at entries txn false
     entries-none h = record { is = λ es e t f r n p. sym (cursor-over (w .is es e t f r n p) h) }
 
     -- the start and the sequence as they were read
@@ -138,7 +140,7 @@ module _ (s : List ℕ) (at entries txn : ℕ) where
       later : (t : Txn) (e : ℕ) (x : Entry) (e' : ℕ) → Part (txnForm (base .key)) s txn t e → Part (entryForm (base .key)) s (c .at) x e' → ltb (t .start) (x .seq) ≡ ltb start seq
       later t e x e' p q = sym (ap₂ ltb (number-read-is 8 (open-txn (base .key) p .start-at) a) (number-read-is 8 (open-entry (base .key) q .seq-at) b))
 
-      pub entries-hit : start < seq → Wrote s txn (c .at) true → Verdict s at entries txn true
+      pub entries-hit : start < seq → Wrote s txn (c .at) true → Searched s at entries txn true
       entries-hit l e =
           record {
             is = λ es z t z' r n p.

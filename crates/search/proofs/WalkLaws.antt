@@ -9,9 +9,9 @@ use Rattle.machine.specs.Lists.{any}
 use Rattle.machine.proofs.ListLaws.{or-left}
 use Rattle.codec.specs.Codec.{Codec}
 use Rattle.layout.specs.Places.{Here, Ends}
-use Rattle.search.specs.declared.cursor.Cursor.{Cursor}
-use Rattle.search.specs.Cursors.{past, Before}
-use Rattle.search.proofs.CursorLaws.{before-next}
+use Rattle.places.specs.declared.cursor.Cursor.{Cursor}
+use Rattle.places.specs.Cursors.{past, Before}
+use Rattle.places.proofs.CursorLaws.{before-here, before-next}
 
 module _ {A : Type 0} where
   pub record Walk (stands : List A → Type 0) (test : A → Bool) (whole : Bool) : Type 0 where
@@ -57,7 +57,7 @@ module _ {A : Type 0} {C : Codec A} {s : List ℕ} {c : Cursor} {test : A → Bo
   cursor-over w h = walk-over w (omega (arith, w .here .count))
 
   pub cursor-here : Walk (Before C s c) test whole → 0 < c .left → Here C s (c .at)
-  cursor-here w h = let x = cursor-head w h in record { val = x .first; end = x .here .row .end; part = x .here .row .first }
+  cursor-here w h = let x = cursor-head w h in before-here C s c (x .first) (x .rest) (x .here)
 
   pub cursor-next : (d : Cursor) (e : ℕ) (h : Head (Before C s c) test whole) → test (h .first) ≡ false → Ends C s (c .at) e → d ≡ past c e → Walk (Before C s d) test whole
   cursor-next d e h m n q = record { rest = h .rest; here = before-next C s c (h .first) (h .rest) d e (h .here) n q; says = head-miss h m }

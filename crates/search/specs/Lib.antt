@@ -1,2 +1,2 @@
 pub mod Marks
-pub mod Cursors
+pub mod Search

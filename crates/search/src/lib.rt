@@ -2,23 +2,21 @@
 ghost use Rattle.machine.specs.State.{base};
 ghost use Rattle.layout.specs.Records.{entryForm, txnForm};
 ghost use Rattle.layout.specs.Places.{Here, Rows};
-ghost use Rattle.search.specs.Cursors.{Verdict};
-use crate::cursor::Cursor;
+ghost use Rattle.search.specs.Search.{Searched};
 use crate::marks::Marks;
 use codec::numbers::read_eight;
 use layout::ID;
+use places::cursor::Cursor;
 use places::skips::entry_past;
 use places::skips::key_past;
 
-pub mod cursor;
-pub mod mark;
 pub mod marks;
 
 // Whether one of the entries at a place is later than the start of the transaction at another and wrote a key that it tracks.
 pub fn conflicts(room: &[u8], at: usize, entries: usize, txn: usize) -> bool
     requires { ⌜ Rows (entryForm (base .key)) (now room) at entries ⌝ }
     requires { ⌜ Here (txnForm (base .key)) (now room) txn ⌝ }
-    ensures { λ r. ⌜ Verdict (now (room .entry)) at entries txn r ⌝ }
+    ensures { λ r. ⌜ Searched (now (room .entry)) at entries txn r ⌝ }
 {
     let start = read_eight(room, txn + ID);
     let marks = Marks::of(room, txn);

@@ -4,11 +4,9 @@ ghost use lib.Dec.{eqb};
 ghost use Rattle.machine.specs.State.{base};
 ghost use Rattle.layout.specs.Records.{txnForm};
 ghost use Rattle.layout.specs.Places.{Here};
-ghost use Rattle.search.specs.Cursors.{marksLeft, Stays, Tracked, Nexts, Meets};
-use crate::cursor::Cursor;
-use crate::mark::in_range;
-use crate::mark::same_key;
+ghost use Rattle.search.specs.Search.{marksLeft, Stays, MarksAt, Nexts, Meets};
 use layout::WRITES;
+use places::cursor::Cursor;
 use places::skips::key_past;
 use places::skips::range_past;
 use places::skips::set_past;
@@ -24,7 +22,7 @@ impl Marks {
     // Before the marks of the transaction at a place.
     pub fn of(room: &[u8], txn: usize) -> Self
         requires { ⌜ Here (txnForm (base .key)) (now room) txn ⌝ }
-        ensures { λ r. ⌜ Tracked (now (room .entry)) txn r ⌝ }
+        ensures { λ r. ⌜ MarksAt (now (room .entry)) txn r ⌝ }
     {
         let at = txn + WRITES;
         let reads_at = set_past(room, at);
@@ -57,12 +55,12 @@ impl Marks {
         ensures { λ r. ⌜ Meets (now (room .entry)) self (now (key .entry)) r ⌝ }
     {
         if 0 < self.writes.left {
-            return same_key(room, self.writes.at, key);
+            return self.writes.is_key(room, key);
         }
         if 0 < self.reads.left {
-            return same_key(room, self.reads.at, key);
+            return self.reads.is_key(room, key);
         }
-        in_range(room, self.ranges.at, key)
+        self.ranges.holds(room, key)
     }
 
     pub fn next(self, room: &[u8]) -> Self

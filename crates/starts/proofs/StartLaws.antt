@@ -30,7 +30,7 @@ use Rattle.places.specs.declared.finds.Place.{Place}
 use Rattle.places.specs.Finds.{Found, HereIn, BeforeIn, LowestIs, lowest}
 use Rattle.places.proofs.FindLaws.{here-finds, before-finds, before-puts}
 use Rattle.places.proofs.LowLaws.{lowest-least}
-use Rattle.search.specs.Cursors.{Verdict}
+use Rattle.search.specs.Search.{Searched}
 use Rattle.room.specs.declared.View.{View}
 use Rattle.room.specs.Views.{Seen}
 use Rattle.answers.proofs.StateLaws.{none-left, begun, begin-malformed, begin-again, begin-full, begin-fits, begin-done, check-malformed, check-absent, check-done, minimum-nobody, minimum-done}
@@ -122,7 +122,7 @@ module _ (s : List ℕ) (v : View) (id : Bytes) (w : Seen s v) where
     pub found-here : Here (txnForm (base .key)) s p
     found-here = record { val = found .one; end = q; part = found .part }
 
-    pub checks : {b : Bool} → length id ≡ 16 → Verdict s 20 (v .entries) p b → Served s (on (check id)) 0 (verdict b) s
+    pub checks : {b : Bool} → length id ≡ 16 → Searched s 20 (v .entries) p b → Served s (on (check id)) 0 (verdict b) s
     checks {b} h r =
         let e : b ≡ conflict (found .one) (w .state .entries) = r .is (w .state .entries) (v .middle) (found .one) q (entry-row w) (sym (w .entries)) (found .part) in
         subst (λ (x : Bool). Served s (on (check id)) 0 (verdict x) s) (sym e) (look s (w .state) (check id) (seen-load w) (verdict (conflict (found .one) (w .state .entries))) (check-done base (w .state) id (found .one) h (here-finds found)))

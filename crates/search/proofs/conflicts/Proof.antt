@@ -10,9 +10,9 @@ use Rattle.machine.specs.State.{base}
 use Rattle.layout.specs.Keys.{keyForm}
 use Rattle.layout.specs.Records.{entryForm}
 use Rattle.layout.specs.Places.{Here}
-use Rattle.search.specs.declared.cursor.Cursor.{Cursor}
-use Rattle.search.specs.Cursors.{marksLeft, Stays}
-use Rattle.search.proofs.MarkLaws.{key-room, key-ends}
+use Rattle.places.specs.declared.cursor.Cursor.{Cursor}
+use Rattle.places.proofs.MarkLaws.{key-room, key-ends}
+use Rattle.search.specs.Search.{marksLeft, Stays}
 use Rattle.search.proofs.SearchLaws.{MarksWalk, KeysWalk, EntriesWalk, txn-room, entry-room, marks-start, marks-stay, marks-none, marks-hit, marks-next, next-less, keys-start, keys-here, keys-none, keys-hit, keys-next, entries-start, entries-here, entries-none, entries-hit, entry-early, entry-apart}
 use Rattle.search.proofs.conflicts.Statement.{statement}
 use Rattle.search.proofs.conflicts.Tie as tie
@@ -21,9 +21,9 @@ use Rattle.search.proofs.conflicts.Lts as lts
 use Rattle.codec.proofs.numbers.read_eight.Reads as read-eight-reads
 use Rattle.places.proofs.skips.entry_past.Reads as entry-past-reads
 use Rattle.places.proofs.skips.key_past.Reads as key-past-reads
-use Rattle.search.proofs.cursor.Cursor.new.Reads as new-reads
-use Rattle.search.proofs.cursor.Cursor.of_list.Reads as of-list-reads
-use Rattle.search.proofs.cursor.Cursor.past.Reads as past-reads
+use Rattle.places.proofs.cursor.Cursor.new.Reads as new-reads
+use Rattle.places.proofs.cursor.Cursor.of_list.Reads as of-list-reads
+use Rattle.places.proofs.cursor.Cursor.past.Reads as past-reads
 use Rattle.search.proofs.marks.Marks.is_over.Reads as is-over-reads
 use Rattle.search.proofs.marks.Marks.meets.Reads as meets-reads
 use Rattle.search.proofs.marks.Marks.next.Reads as next-reads

@@ -1,9 +1,13 @@
+-- The transactions that the cursor has passed have lesser ids.
 use Prim.Native.Nat.{_+_, _≤_}
+use mathlib.Core.Path.{ap}
 use native.Mathlib.Omega.{arith}
 use borrow.Author.Needs.{needs}
+use denote.Ref.{now}
 use lib.ListN.{length}
 use Rattle.machine.specs.State.{base}
 use Rattle.layout.specs.Records.{txnForm}
+use Rattle.places.specs.declared.cursor.Cursor.{Cursor}
 use Rattle.places.proofs.SplitLaws.{Turn, turn, turn-here}
 use Rattle.places.proofs.SeekLaws.{Past, Seek, txn-inside, is-less, is-same, is-more, seek-start, seek-end, seek-before, seek-next, seek-found}
 use Rattle.places.proofs.finds.find_txn.Statement.{statement}
@@ -11,23 +15,37 @@ use Rattle.places.proofs.finds.find_txn.Tie as tie
 use Rattle.places.proofs.finds.find_txn.Reads as reads
 use Rattle.places.proofs.finds.find_txn.Lts as lts
 use Rattle.keys.proofs.compare.Reads as compare-reads
+use Rattle.places.proofs.cursor.Cursor.new.Reads as new-reads
+use Rattle.places.proofs.cursor.Cursor.past.Reads as past-reads
 use Rattle.places.proofs.skips.txn_past.Reads as txn-past-reads
 
 abbrev Inv-loop : tie.InvT-loop
-Inv-loop room at n id e₀ left₀ e left = Seek room at n id e left
+Inv-loop room at n id c₀ c = Seek room at n id c
 
 abbrev μ-loop : tie.MeasureT-loop
-μ-loop room at n id e₀ left₀ e left = left
+μ-loop room at n id c₀ c = c .left
+
+abbrev InTurn : Type 0
+InTurn = tie.Then1 Inv-loop μ-loop
+
+abbrev start : InTurn → tie.Start Inv-loop μ-loop
+start c = c .before .before .before .before .before .before
+
+abbrev cursor : InTurn → Cursor
+cursor c = c .before .before .loop .c
 
 -- the transaction whose turn it is
-now-is : (c : tie.In-loop Inv-loop μ-loop) → Turn (txnForm (base .key)) (Past (c .before .before .before .before .args .id .now)) (c .before .before .before .before .args .room .now) (c .before .before .before .before .args .at) (c .before .before .before .before .args .n) (c .before .loop .e) (c .before .loop .left)
-now-is c = turn _ _ (c .before .loop .inv) (omega arith)
+this : (c : InTurn) → Turn (txnForm (base .key)) (Past (now (start c .args .id))) (now (start c .args .room)) (start c .args .at) (start c .args .n) (cursor c)
+this c = turn _ _ (c .before .before .loop .inv) (c .if1 .taken)
 
-inside : (c : tie.In-loop Inv-loop μ-loop) → c .before .loop .e + 24 ≤ length (c .before .before .before .before .args .room .now)
-inside c = txn-inside (turn-here _ _ (now-is c))
+inside : (c : InTurn) → cursor c .at + 24 ≤ length (now (start c .args .room))
+inside c = txn-inside (turn-here _ _ (this c))
+
+new-requires : tie.Need-new-requires Inv-loop μ-loop
+new-requires c κs = search needs
 
 loop-holds : tie.Need-loop-holds Inv-loop μ-loop
-loop-holds c = seek-start _ (c .before .before .pre)
+loop-holds c = seek-start _ (c .before .before .before .pre) (c .new .ensures)
 
 add-id-end : tie.Need-add-id-end Inv-loop μ-loop
 add-id-end c = omega (arith, inside c)
@@ -45,25 +63,32 @@ compare-requires : tie.Need-compare-requires Inv-loop μ-loop
 compare-requires c κs = search needs
 
 returns : tie.Need-returns Inv-loop μ-loop
-returns c = seek-before _ (now-is (c .before .before .before)) (is-less (c .before .compare .ensures) (c .if1 .taken))
+returns c = seek-before _ (this (c .before .before .before)) (is-less (c .before .compare .ensures) (c .if2 .taken))
 
 txn-past-requires : tie.Need-txn-past-requires Inv-loop μ-loop
-txn-past-requires c κs = turn-here _ _ (now-is (c .before .before .before))
+txn-past-requires c κs = turn-here _ _ (this (c .before .before .before))
 
 returns-2 : tie.Need-returns-2 Inv-loop μ-loop
-returns-2 c = seek-found _ (now-is (c .before .before .before .before .before)) (c .before .txn-past .ensures) (is-same (c .before .before .before .compare .ensures) (c .if2 .taken))
+returns-2 c =
+    let turned = c .before .before in
+    seek-found _ (this (turned .before .before .before)) (c .before .txn-past .ensures) (is-same (turned .before .compare .ensures) (c .if3 .taken))
 
-sub-left : tie.Need-sub-left Inv-loop μ-loop
-sub-left c = search needs
+past-requires : tie.Need-past-requires Inv-loop μ-loop
+past-requires c κs = c .before .before .before .before .before .if1 .taken
 
 loop-less : tie.Need-loop-less Inv-loop μ-loop
-loop-less c = search needs
+loop-less c =
+    let less = ap (λ (x : Cursor). x .left) (c .past .ensures) in
+    omega (arith, less, c .before .before .before .before .before .before .if1 .taken)
 
 loop-again : tie.Need-loop-again Inv-loop μ-loop
-loop-again c = seek-next _ (now-is (c .before .before .before .before .before)) (c .before .txn-past .ensures) (is-more (c .before .before .before .compare .ensures) (c .before .before .if1 .left) (c .if2 .left))
+loop-again c =
+    let turned = c .before .before .before in
+    let more = is-more (turned .before .compare .ensures) (turned .if2 .left) (c .before .if3 .left) in
+    seek-next _ (this (turned .before .before .before)) (c .before .before .txn-past .ensures) more (c .past .ensures)
 
 returns-3 : tie.Need-returns-3 Inv-loop μ-loop
-returns-3 c = seek-end _ (c .before .loop .inv) (omega arith)
+returns-3 c = seek-end _ (c .before .before .loop .inv) (c .if1 .left)
 
 pub find-txn-spec : {M : Type 1} → statement M
 find-txn-spec =
@@ -71,6 +96,7 @@ find-txn-spec =
     (tie.spec
     Inv-loop
     μ-loop
+    new-requires
     loop-holds
     add-id-end
     sub-compare
@@ -80,7 +106,7 @@ find-txn-spec =
     returns
     txn-past-requires
     returns-2
-    sub-left
+    past-requires
     loop-less
     loop-again
     returns-3)

@@ -2,7 +2,7 @@ use Prim.Native.Nat.{_+_}
 use mathlib.Core.Path.{_≡_, sym}
 use native.Mathlib.Omega.{arith}
 use borrow.Author.Tests.{ne-eqb}
-use Rattle.search.specs.Cursors.{marksLeft}
+use Rattle.search.specs.Search.{marksLeft}
 use Rattle.search.proofs.marks.Marks.is_over.Statement.{statement}
 use Rattle.search.proofs.marks.Marks.is_over.Tie as tie
 use Rattle.search.proofs.marks.Marks.is_over.Reads as reads

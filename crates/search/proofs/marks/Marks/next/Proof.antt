@@ -1,12 +1,12 @@
 use borrow.Author.Needs.{needs}
-use Rattle.search.proofs.CursorLaws.{write-turn, read-turn, range-turn, turn-here}
+use Rattle.search.proofs.LeftLaws.{write-turn, read-turn, range-turn, turn-here}
 use Rattle.search.proofs.marks.Marks.next.Statement.{statement}
 use Rattle.search.proofs.marks.Marks.next.Tie as tie
 use Rattle.search.proofs.marks.Marks.next.Reads as reads
 use Rattle.search.proofs.marks.Marks.next.Lts as lts
 use Rattle.places.proofs.skips.key_past.Reads as key-past-reads
 use Rattle.places.proofs.skips.range_past.Reads as range-past-reads
-use Rattle.search.proofs.cursor.Cursor.past.Reads as past-reads
+use Rattle.places.proofs.cursor.Cursor.past.Reads as past-reads
 
 key-past-requires : tie.Need-key-past-requires
 key-past-requires c κs = turn-here (write-turn _ _ _ _ (c .before .before .before .before .before .before .pre .left) (c .if1 .taken))

@@ -1,11 +1,11 @@
 use borrow.Author.Needs.{needs}
-use Rattle.search.proofs.CursorLaws.{writes-here, reads-here, ranges-here, set-room, ranges-room, tracked}
+use Rattle.search.proofs.LeftLaws.{writes-here, reads-here, ranges-here, set-room, ranges-room, marks-at}
 use Rattle.search.proofs.marks.Marks.of.Statement.{statement}
 use Rattle.search.proofs.marks.Marks.of.Tie as tie
 use Rattle.search.proofs.marks.Marks.of.Reads as reads
 use Rattle.search.proofs.marks.Marks.of.Lts as lts
 use Rattle.places.proofs.skips.set_past.Reads as set-past-reads
-use Rattle.search.proofs.cursor.Cursor.of_list.Reads as of-list-reads
+use Rattle.places.proofs.cursor.Cursor.of_list.Reads as of-list-reads
 
 add-at : tie.Need-add-at
 add-at c = search needs
@@ -28,7 +28,7 @@ of-list-requires-3 c κs = ranges-room (ranges-here _ _ _ _ (c .before .before .
 returns : tie.Need-returns
 returns c =
     let ends = c .before .before .before in
-    tracked _ _ _ _ _ _ _ (ends .before .set-past .ensures) (ends .set-past2 .ensures) (c .before .before .of-list .ensures) (c .before .of-list2 .ensures) (c .of-list3 .ensures)
+    marks-at _ _ _ _ _ _ _ (ends .before .set-past .ensures) (ends .set-past2 .ensures) (c .before .before .of-list .ensures) (c .before .of-list2 .ensures) (c .of-list3 .ensures)
 
 pub of-spec : {M : Type 1} → statement M
 of-spec =

@@ -21,7 +21,8 @@ use Rattle.layout.specs.Keys.{keyForm, boundForm, rangeForm}
 use Rattle.layout.specs.Places.{Part, Here, Ends}
 use Rattle.layout.proofs.PartLaws.{number-read-is}
 use Rattle.layout.proofs.OpenLaws.{open-key, open-bound, open-range}
-use Rattle.search.specs.Marks.{KindAt, SameKey, InRange}
+use Rattle.places.specs.declared.cursor.Cursor.{Cursor}
+use Rattle.places.specs.Cursors.{KindAt, IsKey, Holds}
 
 module _ (s : List ℕ) (at : ℕ) where
   -- a key, as the part of the room that is lent
@@ -36,9 +37,6 @@ module _ (s : List ℕ) (at : ℕ) where
 
   pub key-part : (r : ℕ) (m : Bytes) (e : ℕ) → Ends (keyForm (base .key)) s at r → Part (keyForm (base .key)) s at m e → take (r - (at + 2)) (drop (at + 2) s) ≡ m
   key-part r m e n p = sym (drop-take (at + 2) r s) ∙ rw (n .is m e p) (open-key (base .key) p .bytes)
-
-  pub same-key : (r : ℕ) (k : Bytes) (b : Bool) → Ends (keyForm (base .key)) s at r → b ≡ equal k (take (r - (at + 2)) (drop (at + 2) s)) → SameKey s at k b
-  same-key r k b n h = record { is = λ m e p. h ∙ ap (equal k) (key-part r m e n p) }
 
   -- a bound
   pub bound-ends : (r : ℕ) → Here (boundForm (base .key)) s at → Ends (boundForm (base .key)) s at r → (at + 3 ≤ r) × (r ≤ length s)
@@ -57,6 +55,9 @@ module _ (s : List ℕ) (at : ℕ) where
       let from : at + 3 ≡ at + 1 + 2 = omega arith in
       sym (drop-take (at + 3) r s) ∙ rw (n .is b e p, from) (open-key _ (open-bound (base .key) p .key) .bytes)
 
+pub is-key : (s : List ℕ) (c : Cursor) (r : ℕ) (k : Bytes) (b : Bool) → Ends (keyForm (base .key)) s (c .at) r → b ≡ equal k (take (r - (c .at + 2)) (drop (c .at + 2) s)) → IsKey s c k b
+is-key s c r k b n h = record { is = λ m e p. h ∙ ap (equal k) (key-part s (c .at) r m e n p) }
+
 -- the kind of a tag
 abbrev pub tagKind : ℕ → Kind
 tagKind t = cond (eqb t 0x10) Unbounded (cond (eqb t 0x11) Included Excluded)
@@ -74,6 +75,11 @@ kind-is s at k small t = record { is = tagged }
         let o = open-bound (base .key) p in
         let tag : getD s at 0 ≡ boundTag (kindOf b) = number-read-is 1 (o .tag-at) (stands-number 1 s at _ (o .tag-at .inside) small refl) in
         t ∙ ap tagKind tag ∙ tag-kind (kindOf b)
+
+bound-back : (b : Bound) → bound (kindOf b) (keyOf b) ≡ b
+bound-back unbounded = refl
+bound-back (included k) = refl
+bound-back (excluded k) = refl
 
 -- the two bounds of a range
 module _ (s : List ℕ) (at : ℕ) where
@@ -95,20 +101,16 @@ module _ (s : List ℕ) (at : ℕ) where
       let b = bound-ends s m r (end-here m h one) two in
       record { start = a .0; end = b .0; inside = b .1 }
 
-  bound-back : (b : Bound) → bound (kindOf b) (keyOf b) ≡ b
-  bound-back unbounded = refl
-  bound-back (included k) = refl
-  bound-back (excluded k) = refl
-
-  pub in-range : (m r : ℕ) (k : Bytes) (c : ComparableRange) (ks ke : Kind) (b : Bool) → Ends (boundForm (base .key)) s at m → Ends (boundForm (base .key)) s m r
-      → KindAt s at ks → KindAt s m ke → (c .start ≡ ks) × (c .end ≡ ke)
-      → b ≡ holds (rangeOf c (take (m - (at + 3)) (drop (at + 3) s)) (take (r - (m + 3)) (drop (m + 3) s))) k → InRange s at k b
-  in-range m r k c ks ke b one two a z f h = record { is = held }
+module _ (s : List ℕ) (c : Cursor) where
+  pub in-range : (m r : ℕ) (k : Bytes) (p : ComparableRange) (ks ke : Kind) (b : Bool) → Ends (boundForm (base .key)) s (c .at) m → Ends (boundForm (base .key)) s m r
+      → KindAt s (c .at) ks → KindAt s m ke → (p .start ≡ ks) × (p .end ≡ ke)
+      → b ≡ holds (rangeOf p (take (m - (c .at + 3)) (drop (c .at + 3) s)) (take (r - (m + 3)) (drop (m + 3) s))) k → Holds s c k b
+  in-range m r k p ks ke b one two a z f h = record { is = held }
     where
-      held : (g : Range) (e : ℕ) → Part (rangeForm (base .key)) s at g e → b ≡ holds g k
-      held g e p =
-          let o = open-range (base .key) p in
+      held : (g : Range) (e : ℕ) → Part (rangeForm (base .key)) s (c .at) g e → b ≡ holds g k
+      held g e q =
+          let o = open-range (base .key) q in
           let end : Part (boundForm (base .key)) s m (g .end) e = rw (one .is _ _ (o .start)) (o .end) in
-          let x = ap₂ bound (f .0 ∙ a .is _ _ (o .start)) (bound-key s at m (g .start) (o .middle) one (o .start)) ∙ bound-back (g .start) in
+          let x = ap₂ bound (f .0 ∙ a .is _ _ (o .start)) (bound-key s (c .at) m (g .start) (o .middle) one (o .start)) ∙ bound-back (g .start) in
           let y = ap₂ bound (f .1 ∙ z .is _ _ end) (bound-key s m r (g .end) e two end) ∙ bound-back (g .end) in
           h ∙ ap₂ (λ (u v : Bound). holds (range u v) k) x y

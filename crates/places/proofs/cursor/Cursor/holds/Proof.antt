@@ -1,18 +1,22 @@
-use borrow.Author.Needs.{needs}
+-- The two kinds and the two keys that are tested are those of the range under the cursor.
 use native.Mathlib.Omega.{arith}
 use denote.Ref.{now}
-use Rattle.search.proofs.MarkLaws.{start-here, end-here, Spans, spans, in-range}
-use Rattle.search.proofs.mark.in_range.Statement.{statement}
-use Rattle.search.proofs.mark.in_range.Tie as tie
-use Rattle.search.proofs.mark.in_range.Reads as reads
-use Rattle.search.proofs.mark.in_range.Lts as lts
+use Rattle.places.proofs.MarkLaws.{start-here, end-here, Spans, spans, in-range}
+use borrow.Author.Needs.{needs}
+use Rattle.places.proofs.cursor.Cursor.holds.Statement.{statement}
+use Rattle.places.proofs.cursor.Cursor.holds.Tie as tie
+use Rattle.places.proofs.cursor.Cursor.holds.Reads as reads
+use Rattle.places.proofs.cursor.Cursor.holds.Lts as lts
 use Rattle.bounds.proofs.comparable_range.ComparableRange.contains.Reads as contains-reads
 use Rattle.bounds.proofs.comparable_range.ComparableRange.new.Reads as new-reads
+use Rattle.places.proofs.cursor.kind_at.Reads as kind-at-reads
 use Rattle.places.proofs.skips.bound_past.Reads as bound-past-reads
-use Rattle.search.proofs.mark.kind_at.Reads as kind-at-reads
+
+abbrev known : tie.After-struct-known → tie.After-bound-past2
+known c = c .before .before .before .before
 
 -- where both keys lie
-both : (c : tie.After-bound-past2) → Spans (now (c .before .before .before .before .args .room)) (c .before .before .before .before .args .at) (c .before .bound-past .result) (c .bound-past2 .result)
+both : (c : tie.After-bound-past2) → Spans (now (c .before .before .before .before .args .room)) (c .before .before .before .before .args .self .at) (c .before .bound-past .result) (c .bound-past2 .result)
 both c = spans _ _ _ _ (c .before .before .before .before .pre) (c .before .bound-past .ensures) (c .bound-past2 .ensures)
 
 bound-past-requires : tie.Need-bound-past-requires
@@ -34,37 +38,38 @@ add-start-key : tie.Need-add-start-key
 add-start-key c = search needs
 
 add-end-key : tie.Need-add-end-key
-add-end-key c = let h = both (c .before .before .before) in omega arith
+add-end-key c = let h = both (known c) in omega arith
 
 sub-contains : tie.Need-sub-contains
-sub-contains c = both (c .before .before .before) .start
+sub-contains c = both (known c) .start
 
 part-contains-start : tie.Need-part-contains-start
-part-contains-start c = let h = both (c .before .before .before) in search needs
+part-contains-start c = let h = both (known c) in search needs
 
 part-contains-end : tie.Need-part-contains-end
-part-contains-end c = let h = both (c .before .before .before) in search needs
+part-contains-end c = let h = both (known c) in search needs
 
 sub-contains-2 : tie.Need-sub-contains-2
-sub-contains-2 c = both (c .before .before .before .before) .end
+sub-contains-2 c = both (known (c .before)) .end
 
 part-contains-start-2 : tie.Need-part-contains-start-2
-part-contains-start-2 c = let h = both (c .before .before .before .before) in search needs
+part-contains-start-2 c = let h = both (known (c .before)) in search needs
 
 part-contains-end-2 : tie.Need-part-contains-end-2
-part-contains-end-2 c = let h = both (c .before .before .before .before) in search needs
+part-contains-end-2 c = let h = both (known (c .before)) in search needs
 
 contains-requires : tie.Need-contains-requires
 contains-requires c κs = search needs
 
 returns : tie.Need-returns
 returns c =
-    let k = c .before .before .before .before in
+    let new = c .before .before .before .before in
+    let k = new .before in
     let ends = k .before .before in
-    in-range _ _ _ _ _ _ _ _ _ (ends .before .bound-past .ensures) (ends .bound-past2 .ensures) (k .before .kind-at .ensures) (k .kind-at2 .ensures) (c .before .before .before .new .ensures) (c .contains .ensures)
+    in-range _ _ _ _ _ _ _ _ _ (ends .before .bound-past .ensures) (ends .bound-past2 .ensures) (k .before .kind-at .ensures) (k .kind-at2 .ensures) (new .new .ensures) (c .contains .ensures)
 
-pub in-range-spec : {M : Type 1} → statement M
-in-range-spec =
+pub holds-spec : {M : Type 1} → statement M
+holds-spec =
     tie.close
     (tie.spec
     bound-past-requires

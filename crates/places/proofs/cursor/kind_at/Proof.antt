@@ -1,10 +1,10 @@
 use borrow.Author.Tests.{eq-eqb, ne-eqb}
-use Rattle.search.proofs.MarkLaws.{kind-is, bound-room}
+use Rattle.places.proofs.MarkLaws.{kind-is, bound-room}
 use native.Mathlib.Omega.{arith}
-use Rattle.search.proofs.mark.kind_at.Statement.{statement}
-use Rattle.search.proofs.mark.kind_at.Tie as tie
-use Rattle.search.proofs.mark.kind_at.Reads as reads
-use Rattle.search.proofs.mark.kind_at.Lts as lts
+use Rattle.places.proofs.cursor.kind_at.Statement.{statement}
+use Rattle.places.proofs.cursor.kind_at.Tie as tie
+use Rattle.places.proofs.cursor.kind_at.Reads as reads
+use Rattle.places.proofs.cursor.kind_at.Lts as lts
 
 shared-slice-read-tag : tie.Need-shared-slice-read-tag
 shared-slice-read-tag c = bound-room _ _ (c .before .pre)

@@ -1,5 +1,5 @@
--- What a cursor stands before, and what the functions of cursors promise.
-use Prim.Native.Nat.{ℕ, _+_, _-_}
+-- Which marks are left at a place among the marks of a transaction, and what the search promises.
+use Prim.Native.Nat.{ℕ, _+_}
 use mathlib.Core.Path.{_≡_}
 use mathlib.Core.Bool.{Bool}
 use mathlib.Core.List.{List, _∷_}
@@ -7,28 +7,12 @@ use lib.ListN.{length}
 use Rattle.bounds.specs.Ranges.{Range}
 use Rattle.machine.specs.State.{Bytes, Txn, Entry, base}
 use Rattle.machine.specs.Sets.{conflict}
-use Rattle.codec.specs.Codec.{Codec}
-use Rattle.codec.specs.Formats.{number}
-use Rattle.codec.specs.Places.{Stands}
 use Rattle.layout.specs.Keys.{keyForm, rangeForm}
 use Rattle.layout.specs.Records.{entryForm, txnForm}
 use Rattle.layout.specs.Places.{Part, Row}
-use Rattle.search.specs.declared.cursor.Cursor.{Cursor}
+use Rattle.places.specs.Cursors.{Before}
 use Rattle.search.specs.declared.marks.Marks.{Marks}
 use Rattle.search.specs.Marks.{Mark, meets, listed, marksOf}
-
-abbrev pub past : Cursor → ℕ → Cursor
-past c end = record { at = end; left = c .left - 1 }
-
-pub record CountAt (s : List ℕ) (at : ℕ) (c : Cursor) : Type 0 where
-  pub begins : c .at ≡ at + 2
-  pub counts : Stands (number 2) s at (c .left) (at + 2)
-
--- the records of xs, and no more, are left
-pub record Before {A : Type 0} (C : Codec A) (s : List ℕ) (c : Cursor) (xs : List A) : Type 0 where
-  pub end : ℕ
-  pub row : Row C s (c .at) xs end
-  pub count : length xs ≡ c .left
 
 -- the marks of ms are left: writes, then reads, then ranges
 pub record Left (s : List ℕ) (c : Marks) (ms : List Mark) : Type 0 where
@@ -49,7 +33,8 @@ pub record Stays (s : List ℕ) (c : Marks) : Type 0 where
   pub rest : List Mark
   pub left : Left s c (first ∷ rest)
 
-pub record Tracked (s : List ℕ) (txn : ℕ) (c : Marks) : Type 0 where
+-- before the marks of the transaction at a place
+pub record MarksAt (s : List ℕ) (txn : ℕ) (c : Marks) : Type 0 where
   pub is : (t : Txn) (e : ℕ) → Part (txnForm (base .key)) s txn t e → Left s c (marksOf t)
 
 pub record Nexts (s : List ℕ) (c d : Marks) : Type 0 where
@@ -59,6 +44,6 @@ pub record Meets (s : List ℕ) (c : Marks) (k : Bytes) (r : Bool) : Type 0 wher
   pub is : (m : Mark) (ms : List Mark) → Left s c (m ∷ ms) → r ≡ meets k m
 
 -- document 01's check, on the entries and the transaction that stand at these places
-pub record Verdict (s : List ℕ) (at entries txn : ℕ) (r : Bool) : Type 0 where
+pub record Searched (s : List ℕ) (at entries txn : ℕ) (r : Bool) : Type 0 where
   pub is : (es : List Entry) (e : ℕ) (t : Txn) (f : ℕ) → Row (entryForm (base .key)) s at es e → length es ≡ entries
       → Part (txnForm (base .key)) s txn t f → r ≡ conflict t es

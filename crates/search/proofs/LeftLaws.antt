@@ -1,4 +1,4 @@
--- Cursors: the record that comes first, and what is left behind it.
+-- The marks that are left: the first is the first record of one of three rows, and what is left behind it.
 use Prim.Native.Nat.{ℕ, suc, _+_, _-_, _≤_, _<_}
 use mathlib.Core.Path.{_≡_, refl, sym, ap, _∙_}
 use mathlib.Core.Bool.{Bool}
@@ -10,24 +10,14 @@ use Rattle.machine.specs.State.{Bytes, Txn, base}
 use Rattle.codec.specs.Codec.{Codec}
 use Rattle.layout.specs.Keys.{keyForm, setForm, rangeForm, rangesForm, below, anyOrder}
 use Rattle.layout.specs.Records.{txnForm}
-use Rattle.layout.specs.Places.{Part, Row, Here, Ends}
-use Rattle.layout.proofs.PartLaws.{number-read-is}
-use Rattle.layout.proofs.OpenLaws.{OpenList, open-set, open-ranges, open-txn}
-use Rattle.search.specs.declared.cursor.Cursor.{Cursor}
+use Rattle.layout.specs.Places.{Part, Here, Ends}
+use Rattle.layout.proofs.OpenLaws.{open-set, open-ranges, open-txn}
+use Rattle.places.specs.declared.cursor.Cursor.{Cursor}
+use Rattle.places.specs.Cursors.{past, CountAt, Before, IsKey, Holds}
+use Rattle.places.proofs.CursorLaws.{before-next, before-list}
 use Rattle.search.specs.declared.marks.Marks.{Marks}
-use Rattle.search.specs.Marks.{Mark, key, range, meets, listed, marksOf, SameKey, InRange}
-use Rattle.search.specs.Cursors.{past, CountAt, Before, marksLeft, Left, Tracked}
-
-module _ {A : Type 0} (C : Codec A) (s : List ℕ) (c : Cursor) where
-  pub before-next : (x : A) (xs : List A) (d : Cursor) (e : ℕ) → Before C s c (x ∷ xs) → Ends C s (c .at) e → d ≡ past c e → Before C s d xs
-  before-next x xs d e b n q =
-      let here : b .row .end ≡ e = sym (n .is x (b .row .end) (b .row .first)) in
-      let row : Row C s e xs (b .end) = rw here at (b .row .rest) in
-      rw q (record { end = b .end; row = row; count = omega (arith, b .count) })
-
-  -- the records of a list stand behind its count
-  pub before-list : (before : A → A → Bool) (at : ℕ) (xs : List A) (e : ℕ) → OpenList C before s at xs e → CountAt s at c → Before C s c xs
-  before-list before at xs e o n = record { end = e; row = rw (n .begins) (o .row); count = sym (number-read-is 2 (o .count-at) (n .counts)) }
+use Rattle.search.specs.Marks.{Mark, key, range, meets, listed, marksOf}
+use Rattle.search.specs.Search.{marksLeft, Left, MarksAt}
 
 -- the first mark that is left is the first record of one of the three rows; the marks behind it are left past that record
 pub record Turn {A : Type 0} (C : Codec A) (mark : A → Mark) (s : List ℕ) (c : Cursor) (m : Mark) (more : Cursor → Type 0) : Type 0 where
@@ -41,10 +31,10 @@ pub record Turn {A : Type 0} (C : Codec A) (mark : A → Mark) (s : List ℕ) (c
 pub turn-here : {A : Type 0} {C : Codec A} {mark : A → Mark} {s : List ℕ} {c : Cursor} {m : Mark} {more : Cursor → Type 0} → Turn C mark s c m more → Here C s (c .at)
 turn-here t = record { val = t .val; end = t .end; part = t .part }
 
-pub key-met : {s : List ℕ} {c : Cursor} {m : Mark} {more : Cursor → Type 0} (k : Bytes) (r : Bool) → Turn (keyForm (base .key)) key s c m more → SameKey s (c .at) k r → r ≡ meets k m
+pub key-met : {s : List ℕ} {c : Cursor} {m : Mark} {more : Cursor → Type 0} (k : Bytes) (r : Bool) → Turn (keyForm (base .key)) key s c m more → IsKey s c k r → r ≡ meets k m
 key-met k r t h = h .is (t .val) (t .end) (t .part) ∙ ap (meets k) (sym (t .is))
 
-pub range-met : {s : List ℕ} {c : Cursor} {m : Mark} {more : Cursor → Type 0} (k : Bytes) (r : Bool) → Turn (rangeForm (base .key)) range s c m more → InRange s (c .at) k r → r ≡ meets k m
+pub range-met : {s : List ℕ} {c : Cursor} {m : Mark} {more : Cursor → Type 0} (k : Bytes) (r : Bool) → Turn (rangeForm (base .key)) range s c m more → Holds s c k r → r ≡ meets k m
 range-met k r t h = h .is (t .val) (t .end) (t .part) ∙ ap (meets k) (sym (t .is))
 
 module _ (s : List ℕ) (c : Marks) (m : Mark) (ms : List Mark) where
@@ -126,9 +116,9 @@ module _ (s : List ℕ) (txn : ℕ) where
       let r : Part (setForm (base .key)) s a (h .val .reads) (o .reads-end) = rw (n .is _ _ (o .writes)) (o .reads) in
       record { val = h .val .ranges; end = h .end; part = rw (k .is _ _ r) (o .ranges) }
 
-  pub tracked : (a b : ℕ) (w r g : Cursor) → Ends (setForm (base .key)) s (txn + 24) a → Ends (setForm (base .key)) s a b → CountAt s (txn + 24) w → CountAt s a r → CountAt s b g
-      → Tracked s txn (record { writes = w; reads = r; ranges = g })
-  tracked a b w r g n k x y z = record { is = left }
+  pub marks-at : (a b : ℕ) (w r g : Cursor) → Ends (setForm (base .key)) s (txn + 24) a → Ends (setForm (base .key)) s a b → CountAt s (txn + 24) w → CountAt s a r → CountAt s b g
+      → MarksAt s txn (record { writes = w; reads = r; ranges = g })
+  marks-at a b w r g n k x y z = record { is = left }
     where
       left : (t : Txn) (e : ℕ) → Part (txnForm (base .key)) s txn t e → Left s (record { writes = w; reads = r; ranges = g }) (marksOf t)
       left t e p =

@@ -1,0 +1,41 @@
+-- What a cursor stands before, and what its methods promise.
+use Prim.Native.Nat.{ℕ, _+_, _-_}
+use mathlib.Core.Path.{_≡_}
+use mathlib.Core.Bool.{Bool}
+use mathlib.Core.List.{List}
+use lib.ListN.{length}
+use Rattle.kinds.specs.Bounds.{Bound}
+use Rattle.kinds.specs.declared.kind.Kind.{Kind}
+use Rattle.bounds.specs.Ranges.{Range, holds}
+use Rattle.ranges.specs.Made.{kindOf}
+use Rattle.machine.specs.State.{Bytes, base}
+use Rattle.machine.specs.Sets.{equal}
+use Rattle.codec.specs.Codec.{Codec}
+use Rattle.codec.specs.Formats.{number}
+use Rattle.codec.specs.Places.{Stands}
+use Rattle.layout.specs.Keys.{keyForm, boundForm, rangeForm}
+use Rattle.layout.specs.Places.{Part, Row}
+use Rattle.places.specs.declared.cursor.Cursor.{Cursor}
+
+abbrev pub past : Cursor → ℕ → Cursor
+past c end = record { at = end; left = c .left - 1 }
+
+pub record CountAt (s : List ℕ) (at : ℕ) (c : Cursor) : Type 0 where
+  pub begins : c .at ≡ at + 2
+  pub counts : Stands (number 2) s at (c .left) (at + 2)
+
+-- the records of xs, and no more, are left
+pub record Before {A : Type 0} (C : Codec A) (s : List ℕ) (c : Cursor) (xs : List A) : Type 0 where
+  pub end : ℕ
+  pub row : Row C s (c .at) xs end
+  pub count : length xs ≡ c .left
+
+-- what is promised of the record at a place, whatever it is
+pub record KindAt (s : List ℕ) (at : ℕ) (r : Kind) : Type 0 where
+  pub is : (b : Bound) (e : ℕ) → Part (boundForm (base .key)) s at b e → r ≡ kindOf b
+
+pub record IsKey (s : List ℕ) (c : Cursor) (k : Bytes) (r : Bool) : Type 0 where
+  pub is : (m : Bytes) (e : ℕ) → Part (keyForm (base .key)) s (c .at) m e → r ≡ equal k m
+
+pub record Holds (s : List ℕ) (c : Cursor) (k : Bytes) (r : Bool) : Type 0 where
+  pub is : (g : Range) (e : ℕ) → Part (rangeForm (base .key)) s (c .at) g e → r ≡ holds g k
