@@ -1,5 +1,5 @@
 ghost use mathlib.Core.Path.{_≡_};
-ghost use Prim.Native.Nat.{_+_, _≤_, _<_};
+ghost use Prim.Native.Nat.{_+_, _≤_, _<_, max, min};
 ghost use lib.ListN.{length};
 ghost use lib.Seq.{paste};
 ghost use Rattle.codec.specs.Formats.{number};
@@ -23,17 +23,6 @@ pub fn read_two(bytes: &[u8], at: usize) -> usize
     ensures { λ r. ⌜ Stands (number 2) (now (bytes .entry)) at r (at + 2) ⌝ }
 {
     wide(bytes[at + 1]) + wide(bytes[at]) * 0x100
-}
-
-// The number in the four bytes at a place.
-pub fn read_four(bytes: &[u8], at: usize) -> usize
-    requires { ⌜ at + 4 ≤ length (now bytes) ⌝ }
-    ensures { λ r. ⌜ Stands (number 4) (now (bytes .entry)) at r (at + 4) ⌝ }
-{
-    wide(bytes[at + 3])
-        + wide(bytes[at + 2]) * 0x100
-        + wide(bytes[at + 1]) * 0x10000
-        + wide(bytes[at]) * 0x1000000
 }
 
 // The number in the eight bytes at a place. The compiler makes one load of a flat sum from the low byte up, and not of one from
@@ -74,4 +63,16 @@ pub fn write_eight(bytes: &mut [u8], at: usize, x: u64)
     bytes[at + 5] = (x / 0x10000 % 256) as u8;
     bytes[at + 6] = (x / 0x100 % 256) as u8;
     bytes[at + 7] = (x % 256) as u8;
+}
+
+pub fn larger(a: u64, b: u64) -> u64
+    ensures { λ r. ⌜ r ≡ max a b ⌝ }
+{
+    if a < b { b } else { a }
+}
+
+pub fn lesser(a: u64, b: u64) -> u64
+    ensures { λ r. ⌜ r ≡ min a b ⌝ }
+{
+    if a < b { a } else { b }
 }
