@@ -1,4 +1,4 @@
--- A room in the view's own numbers, and with one of the active ones taken out.
+-- A room with one of the active ones taken out.
 use Prim.Native.Nat.{ℕ, _+_, _-_, _≤_, _<_, _^_}
 use mathlib.Core.Path.{_≡_, refl, sym, ap, _∙_}
 use mathlib.Core.List.{List, [], _∷_, _++_}
@@ -15,18 +15,14 @@ use Rattle.room.specs.Views.{Seen}
 use Rattle.places.specs.declared.finds.Place.{Place}
 use Rattle.places.specs.Finds.{HereIn, Found}
 use Rattle.places.proofs.FindLaws.{here-without}
-use Rattle.edits.proofs.LaidLaws.{Laid, entriesOf, activeOf}
-use Rattle.answers.proofs.ChangeLaws.{relaid, laid-out}
+use Rattle.layout.specs.States.{headsOf}
+use Rattle.edits.specs.Laid.{Laid, entriesOf, activeOf}
+use Rattle.edits.proofs.LaidLaws.{relaid}
+use Rattle.edits.proofs.ChangeLaws.{laid-out}
 use Rattle.answers.proofs.SeenLaws.{seen-held, seen-laid}
 use Rattle.answers.proofs.FoundLaws as F
 
 module _ {s : List ℕ} {v : View} (w : Seen s v) where
-  pub view-laid : Laid s s (v .used) (v .last) (v .entries) (v .active) (entriesOf (w .state .entries)) (activeOf (w .state .active))
-  view-laid = relaid refl (sym (w .last)) (sym (w .entries)) (sym (w .active)) refl refl (seen-laid w)
-
-  pub view-last : v .last < 256 ^ 8
-  view-last = omega (arith, w .last, seen-held w .last)
-
   module _ {id : Bytes} {p q : ℕ} (f : Found s (v .middle) (v .active) id (Place.Here p q)) where
     abbrev here : HereIn s (v .middle) id (w .state .active) (v .used) p q
     here = F.here w f
@@ -55,7 +51,7 @@ module _ {s : List ℕ} {v : View} (w : Seen s v) where
         let b = row-inside (txnForm (base .key)) s q (here .back) (v .used) (here .after) in
         record { after = a .0; from = here .part .from; within = b .0; inside = b .1; some = omega (arith, left-many) }
 
-    pub here-out : {s1 : List ℕ} → Spliced s (v .used) p (q - p) [] s1 → Laid s s1 (v .used - (q - p)) (v .last) (v .entries) (v .active) (entriesOf (w .state .entries)) (activeOf left)
+    pub here-out : {s1 : List ℕ} → Spliced s (v .used) p (q - p) [] s1 → Laid s s1 (v .used - (q - p)) (headsOf (w .state)) (entriesOf (w .state .entries)) (activeOf left)
     here-out x =
         let a : p ≡ v .middle + length (activeOf (here .front)) = row-end (txnForm (base .key)) s (v .middle) (here .front) p (here .before) in
-        laid-out (here .front) (here .back) (here .one) (relaid refl refl refl refl refl (ap activeOf (here .whole)) view-laid) (omega (arith, a, w .middle)) (omega (arith, part-end (txnForm (base .key)) (here .part))) x
+        laid-out (here .front) (here .back) (here .one) (relaid refl refl refl (ap activeOf (here .whole)) (seen-laid w)) (omega (arith, a, w .middle)) (omega (arith, part-end (txnForm (base .key)) (here .part))) x

@@ -7,11 +7,12 @@ use lib.ListN.{length}
 use Rattle.machine.specs.State.{Bytes, State, Txn, Entry, base}
 use Rattle.machine.specs.Calls.{Op, on, holding}
 use Rattle.layout.specs.Records.{entryForm, txnForm}
-use Rattle.layout.specs.States.{roomSize}
+use Rattle.layout.specs.Offsets.{entriesAt}
+use Rattle.layout.specs.States.{headsOf, roomSize}
 use Rattle.layout.specs.Rooms.{load, Served}
 use Rattle.layout.specs.Places.{Row, Rows}
 use Rattle.layout.proofs.LoadLaws.{Held, no-state}
-use Rattle.edits.proofs.LaidLaws.{Laid, entriesOf, activeOf}
+use Rattle.edits.specs.Laid.{Laid, entriesOf, activeOf}
 use Rattle.places.specs.declared.finds.Place.{Place}
 use Rattle.places.specs.Finds.{Found, PlaceIn, HereIn, BeforeIn}
 use Rattle.room.specs.declared.View.{View}
@@ -32,19 +33,19 @@ module _ {s : List ℕ} {v : View} (w : Seen s v) where
   pub seen-short : v .used ≤ roomSize base
   seen-short = sight-short s (w .state) (v .used) (w .whole) (w .inside) (w .size)
 
-  pub seen-laid : Laid s s (v .used) (w .state .last) (length (w .state .entries)) (length (w .state .active)) (entriesOf (w .state .entries)) (activeOf (w .state .active))
+  pub seen-laid : Laid s s (v .used) (headsOf (w .state)) (entriesOf (w .state .entries)) (activeOf (w .state .active))
   seen-laid = sight-laid s (w .state) (v .used) (w .whole) (w .inside) (w .size)
 
   rowed : Rowed s (w .state) (v .used)
   rowed = sight-rows s (w .state) (v .used) (w .whole) (w .inside) (w .size)
 
-  pub entry-row : Row (entryForm (base .key)) s 20 (w .state .entries) (v .middle)
+  pub entry-row : Row (entryForm (base .key)) s entriesAt (w .state .entries) (v .middle)
   entry-row = rw (w .middle) (rowed .entries)
 
   pub active-row : Row (txnForm (base .key)) s (v .middle) (w .state .active) (v .used)
   active-row = rw (w .middle) (rowed .active)
 
-  pub entry-rows : Rows (entryForm (base .key)) s 20 (v .entries)
+  pub entry-rows : Rows (entryForm (base .key)) s entriesAt (v .entries)
   entry-rows = record { vals = w .state .entries; end = v .middle; row = entry-row; count = sym (w .entries) }
 
   pub active-rows : Rows (txnForm (base .key)) s (v .middle) (v .active)

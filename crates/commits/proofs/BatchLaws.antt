@@ -13,9 +13,9 @@ use Rattle.fields.specs.Fields.{keyList}
 use Rattle.fields.specs.Forms.{shortKeys, formOf}
 use Rattle.fields.specs.declared.Form.{Form}
 use Rattle.machine.specs.Lists.{sum}
-use Rattle.machine.specs.State.{Bytes, Entry, State, base, MachineState, marks, keyBytes, setBytes}
+use Rattle.machine.specs.State.{Bytes, Entry, State, withEntries, advanced, base, MachineState, marks, keyBytes, setBytes}
 use Rattle.machine.specs.Sets.{insertAll}
-use Rattle.machine.specs.Serve.{state, entry, answer, serve}
+use Rattle.machine.specs.Serve.{entry, answer, serve}
 use Rattle.machine.specs.Calls.{Op, Answer, on, batch, holding, reply, malformed, long, full, done}
 use Rattle.machine.proofs.ListLaws.{all-map}
 use Rattle.machine.proofs.Kept.{RoomOk, serve-keeps}
@@ -23,29 +23,30 @@ use Rattle.codec.specs.Codec.{writeRun}
 use Rattle.codec.specs.Formats.{number}
 use Rattle.codec.proofs.NumberLaws.{length-number}
 use Rattle.moves.specs.Splices.{Spliced}
+use Rattle.layout.specs.Offsets.{numberSize, countSize, partAt, entryCountAt}
 use Rattle.layout.specs.Keys.{setForm}
-use Rattle.layout.specs.Records.{headForm, entryForm}
-use Rattle.layout.specs.States.{roomSize}
+use Rattle.layout.specs.Records.{entryForm}
+use Rattle.layout.specs.States.{headsOf, setEntryCount, roomSize}
 use Rattle.layout.specs.Rooms.{Served}
 use Rattle.layout.proofs.RowLaws.{write-append}
 use Rattle.layout.proofs.SizeLaws.{set-length, entry-length, state-length, fits-size}
-use Rattle.layout.proofs.LoadLaws.{Changed, refuse, change}
+use Rattle.layout.proofs.LoadLaws.{refuse, change}
 use Rattle.room.specs.declared.View.{View}
 use Rattle.room.specs.Views.{Seen}
 use Rattle.tracks.specs.declared.drafts.Drafted.{Drafted}
 use Rattle.tracks.specs.Drafts.{setSize, Begun, SetStands, DraftedIs}
-use Rattle.edits.specs.Edits.{freshHead}
-use Rattle.edits.proofs.LaidLaws.{entriesOf, laid-used, laid-entries}
+use Rattle.edits.specs.Laid.{entriesOf}
+use Rattle.edits.specs.Leaving.{Emptied}
+use Rattle.edits.proofs.LaidLaws.{laid-used, laid-entries}
+use Rattle.edits.proofs.ChangeLaws.{laid-enter}
 use Rattle.edits.specs.Advance.{Advanced}
-use Rattle.answers.proofs.ChangeLaws.{laid-enter, fresh-changed}
 use Rattle.answers.proofs.EnterLaws.{batch-malformed, batch-long, batch-idle, batch-full, batch-done}
 use Rattle.commits.specs.Batches.{Entering}
-use Rattle.answers.proofs.SeenLaws.{seen-load, seen-held}
+use Rattle.answers.proofs.SeenLaws.{seen-load, seen-held, seen-laid}
 use Rattle.answers.proofs.FoundLaws.{within}
-use Rattle.answers.proofs.LeftLaws.{view-laid, view-last}
 use Rattle.answers.proofs.StateLaws.{none-left}
 use Rattle.answers.proofs.FormLaws.{Listed, no-list, long-list, good-list}
-use Rattle.answers.proofs.AdvanceLaws.{advances, advance-changed}
+use Rattle.answers.proofs.AdvanceLaws.{advance-changed, empty-advanced}
 
 -- ---- before the list's keys are looked at
 
@@ -58,29 +59,28 @@ module _ {s : List ℕ} {v : View} (w : Seen s v) {seq : ℕ} {list : Bytes} whe
       let l = long-list (keyList list) e in
       refuse s (w .state) (batch seq list) (seen-load w) long (batch-long base (w .state) seq list (l .keys) (l .is) (l .short))
 
-  pub batch-nobody : {r : ℕ} {s' : List ℕ} → Form.Good ≡ formOf (keyList list) → v .active ≡ 0 → r ≡ max (v .last) seq → s' ≡ paste s 0 (headForm .write (freshHead r)) 20 → seq < 256 ^ 8
+  pub batch-nobody : {r : ℕ} {s' : List ℕ} → Form.Good ≡ formOf (keyList list) → v .active ≡ 0 → r ≡ max (v .last) seq → Emptied s r s' → seq < 256 ^ 8
       → Served s (on (batch seq list)) 0 r s'
   batch-nobody {r} {s'} e k m c b =
       let st = w .state in
       let l = good-list (keyList list) e in
-      let n : r ≡ max (st .last) seq = m ∙ advances w seq in
-      let d = subst (λ (l : ℕ). Changed s s' (state l [] [])) n (fresh-changed s s' r (w .size) c (omega (arith, m, b, view-last w))) in
-      rw n (change s s' st _ (batch seq list) (seen-load w) d _ (batch-idle base st seq list (l .keys) (l .is) (l .short) (none-left (st .active) (omega (arith, k, w .active)))))
+      let y = empty-advanced w m c b in
+      rw (y .1) (change s s' st _ (batch seq list) (seen-load w) (y .0) _ (batch-idle base st seq list (l .keys) (l .is) (l .short) (none-left (st .active) (omega (arith, k, w .active)))))
 
-  pub batch-many : Form.Good ≡ formOf (keyList list) → (v .active ≡ 0 → ⊥) → 128 ≤ v .entries → Served s (on (batch seq list)) 6 0 s
+  pub batch-many : Form.Good ≡ formOf (keyList list) → (v .active ≡ 0 → ⊥) → base .entries ≤ v .entries → Served s (on (batch seq list)) 6 0 s
   batch-many e k m =
       let st = w .state in
       let l = good-list (keyList list) e in
       refuse s st (batch seq list) (seen-load w) full (batch-full base st seq list (l .keys) (l .is) (l .short) (omega (arith, k, w .active)) (inl (omega (arith, m, w .entries))))
 
-pub entering : {v : View} {list : Bytes} → Form.Good ≡ formOf (keyList list) → (v .active ≡ 0 → ⊥) → v .entries < 128 → Entering v list
+pub entering : {v : View} {list : Bytes} → Form.Good ≡ formOf (keyList list) → (v .active ≡ 0 → ⊥) → v .entries < base .entries → Entering v list
 entering {list = list} e k m = let l = good-list (keyList list) e in record { keys = l .keys; listed = l .is; short = l .short; active = omega (arith, k); entries = m }
 
 -- ---- the draft
 
-pub begun : {v : View} {list : Bytes} (d : List ℕ) (m b : ℕ) → Entering v list → length d ≡ setSize → m ≤ 1024 → b ≤ 32768 → Begun d 0 0 list m b
+pub begun : {v : View} {list : Bytes} (d : List ℕ) (m b : ℕ) → Entering v list → length d ≡ setSize → m ≤ base .marks → b ≤ base .bytes → Begun d 0 0 list m b
 begun d m b x l hm hb =
-    let n : length (drop 2 d) ≡ 34816 = length-drop 2 d ∙ omega (arith, l) in
+    let n : length (drop countSize d) ≡ setSize - countSize = length-drop countSize d ∙ omega (arith, l) in
     record {
       head = omega (arith, l);
       keys = record { ks = []; row = (refl, omega arith); count = refl; keys = x .keys; listed = x .listed; short = x .short; space = omega (arith, n, hm, hb) };
@@ -92,7 +92,7 @@ unfolding serve
 done-ok st c n st' e o = subst (RoomOk base) (ap (λ (x : Answer). reply st x .room) e) (serve-keeps base (holding st) (on c) o)
 
 -- an entry more, in bytes
-one-more : (es : List Entry) (n : ℕ) (ks : List Bytes) → length (entriesOf (es ++ (entry n ks ∷ []))) ≡ length (entriesOf es) + (8 + length (setForm (base .key) .write ks))
+one-more : (es : List Entry) (n : ℕ) (ks : List Bytes) → length (entriesOf (es ++ (entry n ks ∷ []))) ≡ length (entriesOf es) + (numberSize + length (setForm (base .key) .write ks))
 unfolding writeRun
 one-more es n ks =
     let x : Entry = entry n ks in
@@ -101,8 +101,8 @@ one-more es n ks =
 
 -- ---- the entry
 
-pub room-for-last : {s s1 s2 src : List ℕ} {v : View} {used at : ℕ} (x : ℕ) → Seen s v → Spliced s used at 0 src s1 → s2 ≡ paste s1 16 (number 2 .write x) 2 → 16 ≤ length s2
-room-for-last {s1 = s1} x w y e = omega (arith, w .size, y .size, ap length e, length-paste s1 16 (number 2 .write x) 2 (omega (arith, w .size, y .size)) (omega (arith, length-number 2 x)))
+pub room-for-last : {s s1 s2 src : List ℕ} {v : View} {used at : ℕ} (x : ℕ) → Seen s v → Spliced s used at 0 src s1 → s2 ≡ paste s1 entryCountAt (number countSize .write x) countSize → partAt ≤ length s2
+room-for-last {s1 = s1} x w y e = omega (arith, w .size, y .size, ap length e, length-paste s1 entryCountAt (number countSize .write x) countSize (omega (arith, w .size, y .size)) (omega (arith, length-number countSize x)))
 
 module _ {s : List ℕ} {v : View} (w : Seen s v) {list : Bytes} (x : Entering v list) where
   -- the keys of the list as a set
@@ -112,18 +112,18 @@ module _ {s : List ℕ} {v : View} (w : Seen s v) {list : Bytes} (x : Entering v
   someone : 0 < length (w .state .active)
   someone = omega (arith, x .active, w .active)
 
-  pub batch-over : {d d' : List ℕ} {seq : ℕ} → DraftedIs d 0 0 list (1024 - v .marks) (32768 - v .bytes) d' Drafted.Full → Served s (on (batch seq list)) 6 0 s
+  pub batch-over : {d d' : List ℕ} {seq : ℕ} → DraftedIs d 0 0 list (base .marks - v .marks) (base .bytes - v .bytes) d' Drafted.Full → Served s (on (batch seq list)) 6 0 s
   unfolding sum
   batch-over {d} {d'} {seq} q =
       let st = w .state in
       refuse s st (batch seq list) (seen-load w) full (batch-full base st seq list (x .keys) (x .listed) (x .short) someone (inr (passes (q .is [] (x .keys) (refl, omega arith) refl (x .listed)))))
     where
-      passes : (0 + (1024 - v .marks) < length all) ⊎ (0 + (32768 - v .bytes) < setBytes all) → (1024 < marks (w .state) + length all) ⊎ (32768 < keyBytes (w .state) + setBytes all)
+      passes : (0 + (base .marks - v .marks) < length all) ⊎ (0 + (base .bytes - v .bytes) < setBytes all) → (base .marks < marks (w .state) + length all) ⊎ (base .bytes < keyBytes (w .state) + setBytes all)
       passes (inl a) = inl (omega (arith, a, w .marks))
       passes (inr a) = inr (omega (arith, a, w .bytes))
 
-  module _ {d d' : List ℕ} {end n : ℕ} (q : DraftedIs d 0 0 list (1024 - v .marks) (32768 - v .bytes) d' (Drafted.Set end n)) where
-    set : SetStands d' [] all (1024 - v .marks) (32768 - v .bytes) end n
+  module _ {d d' : List ℕ} {end n : ℕ} (q : DraftedIs d 0 0 list (base .marks - v .marks) (base .bytes - v .bytes) d' (Drafted.Set end n)) where
+    set : SetStands d' [] all (base .marks - v .marks) (base .bytes - v .bytes) end n
     set = q .is [] (x .keys) (refl, omega arith) refl (x .listed)
 
     pub set-inside : end ≤ length d'
@@ -132,31 +132,34 @@ module _ {s : List ℕ} {v : View} (w : Seen s v) {list : Bytes} (x : Entering v
     set-bytes : take (end - 0) d' ≡ setForm (base .key) .write all
     set-bytes = let e : end - 0 ≡ end = omega arith in ap (λ (k : ℕ). take k d') e ∙ set .whole
 
-    answers : (seq : ℕ) → answer base (w .state) (batch seq list) ≡ done (max (w .state .last) seq) (state (max (w .state .last) seq) (w .state .active) (w .state .entries ++ (entry seq all ∷ [])))
+    -- the state with the entry
+    abbrev more : ℕ → State
+    more seq = withEntries (w .state .entries ++ (entry seq all ∷ [])) (w .state)
+
+    answers : (seq : ℕ) → answer base (w .state) (batch seq list) ≡ done (max (w .state .last) seq) (advanced seq (more seq))
     unfolding sum
     answers seq =
         let below = within w in
         batch-done base (w .state) seq list (x .keys) (x .listed) (x .short) someone (omega (arith, x .entries, w .entries)) (omega (arith, set .few, w .marks, below .0)) (omega (arith, set .small, w .bytes, below .1)) (seen-held w .kept)
 
     -- the state's record with the entry fits
-    fits : (seq : ℕ) → v .used + (8 + length (setForm (base .key) .write all)) ≤ roomSize base
+    fits : (seq : ℕ) → v .used + (numberSize + length (setForm (base .key) .write all)) ≤ roomSize base
     fits seq =
         let st = w .state in
-        let st' : State = state (max (st .last) seq) (st .active) (st .entries ++ (entry seq all ∷ [])) in
+        let st' : State = advanced seq (more seq) in
         let o = done-ok st (batch seq list) (max (st .last) seq) st' (answers seq) (seen-held w .kept) in
-        omega (arith, fits-size base (base .key) st' (o .ceilings) (all-map _ _ (λ t k. k .id-length) (st .active) (o .txns)), state-length (base .key) st', one-more (st .entries) seq all, laid-used (view-laid w))
+        omega (arith, fits-size base (base .key) st' (o .ceilings) (all-map _ _ (λ t k. k .id-length) (st .active) (o .txns)), state-length (base .key) st', one-more (st .entries) seq all, laid-used (seen-laid w))
 
-    pub batch-room : (v .middle ≤ v .used) × (v .used + (8 + length (take (end - 0) d')) ≤ length s)
-    batch-room = (omega (arith, w .middle, laid-used (view-laid w)), omega (arith, ap length set-bytes, fits 0, w .size))
+    pub batch-room : (v .middle ≤ v .used) × (v .used + (numberSize + length (take (end - 0) d')) ≤ length s)
+    batch-room = (omega (arith, w .middle, laid-used (seen-laid w)), omega (arith, ap length set-bytes, fits 0, w .size))
 
-    pub batch-entered : {s1 s2 s3 : List ℕ} {seq r : ℕ} → Spliced s (v .used) (v .middle) 0 (number 8 .write seq ++ take (end - 0) d') s1 → s2 ≡ paste s1 16 (number 2 .write (v .entries + 1)) 2 → Advanced s2 seq s3 r → seq < 256 ^ 8
+    pub batch-entered : {s1 s2 s3 : List ℕ} {seq r : ℕ} → Spliced s (v .used) (v .middle) 0 (number numberSize .write seq ++ take (end - 0) d') s1 → s2 ≡ paste s1 entryCountAt (number countSize .write (v .entries + 1)) countSize → Advanced s2 seq s3 r → seq < 256 ^ 8
         → Served s (on (batch seq list)) 0 r s3
     batch-entered {s1} {s2} {s3} {seq} {r} y e a b =
         let st = w .state in
         let es : List Entry = st .entries ++ (entry seq all ∷ []) in
-        let ls : length (number 8 .write seq ++ take (end - 0) d') ≡ 8 + length (setForm (base .key) .write all) = length-append (number 8 .write seq) (take (end - 0) d') ∙ rw (length-number 8 seq, set-bytes) in
-        let l = laid-enter (st .entries) seq all (view-laid w) (w .middle) set-bytes y (omega (arith, ls, fits seq)) in
+        let ls : length (number numberSize .write seq ++ take (end - 0) d') ≡ numberSize + length (setForm (base .key) .write all) = length-append (number numberSize .write seq) (take (end - 0) d') ∙ rw (length-number numberSize seq, set-bytes) in
+        let l = laid-enter (st .entries) seq all (seen-laid w) (w .middle) set-bytes y (omega (arith, ls, fits seq)) in
         let ne : v .entries + 1 ≡ length es = sym (length-append (st .entries) (entry seq all ∷ []) ∙ omega (arith, w .entries)) in
-        let z = advance-changed (st .active) es a (view-last w) b ne (w .active) (laid-entries l (v .entries + 1) e) in
-        let c = subst (λ (m : ℕ). Changed s s3 (state m (st .active) es)) (advances w seq) (z .0) in
-        rw (z .1, advances w seq) (change s s3 st _ (batch seq list) (seen-load w) c _ (answers seq))
+        let z = advance-changed (more seq) a (seen-held w .last) b (ap (λ (i : ℕ). setEntryCount i (headsOf st)) ne) (laid-entries l (v .entries + 1) e) in
+        rw (z .1) (change s s3 st _ (batch seq list) (seen-load w) (z .0) _ (answers seq))

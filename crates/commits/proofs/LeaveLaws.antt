@@ -10,6 +10,7 @@ use Rattle.machine.specs.State.{Txn, base}
 use Rattle.codec.specs.Formats.{number}
 use Rattle.moves.specs.Splices.{Spliced}
 use Rattle.moves.proofs.SpliceLaws.{drop-take}
+use Rattle.layout.specs.Offsets.{numberSize, writesAt}
 use Rattle.layout.specs.Keys.{setForm}
 use Rattle.layout.specs.Records.{txnForm}
 use Rattle.layout.specs.Places.{Part, Here, Ends}
@@ -20,22 +21,22 @@ use Rattle.tracks.specs.Drafts.{setSize}
 use Rattle.commits.specs.Commits.{Leaving, Entered}
 
 -- where the writes stand
-writes-part : {s : List ℕ} {at end past : ℕ} (t : Txn) → Part (txnForm (base .key)) s at t end → Ends (setForm (base .key)) s (at + 24) past → Part (setForm (base .key)) s (at + 24) (t .writes) past
-writes-part {s} {at} t p x = let o = open-txn (base .key) p in subst (Part (setForm (base .key)) s (at + 24) (t .writes)) (sym (x .is (t .writes) (o .writes-end) (o .writes))) (o .writes)
+writes-part : {s : List ℕ} {at end past : ℕ} (t : Txn) → Part (txnForm (base .key)) s at t end → Ends (setForm (base .key)) s (at + writesAt) past → Part (setForm (base .key)) s (at + writesAt) (t .writes) past
+writes-part {s} {at} t p x = let o = open-txn (base .key) p in subst (Part (setForm (base .key)) s (at + writesAt) (t .writes)) (sym (x .is (t .writes) (o .writes-end) (o .writes))) (o .writes)
 
-pub writes-here : {s : List ℕ} {used middle at end : ℕ} → Leaving s used middle at end → Here (setForm (base .key)) s (at + 24)
+pub writes-here : {s : List ℕ} {used middle at end : ℕ} → Leaving s used middle at end → Here (setForm (base .key)) s (at + writesAt)
 writes-here l = here-of (setForm (base .key)) (open-txn (base .key) (l .part) .writes)
 
 pub record Span (s : List ℕ) (used middle at end past : ℕ) : Type 0 where
   pub after : middle ≤ at
-  pub from : at + 24 ≤ past
+  pub from : at + writesAt ≤ past
   pub to : past ≤ end
   pub within : end ≤ used
   pub inside : past ≤ length s
   pub room : used ≤ length s
-  pub short : past - (at + 24) ≤ setSize
+  pub short : past - (at + writesAt) ≤ setSize
 
-pub writes-span : {s : List ℕ} {used middle at end past : ℕ} → Leaving s used middle at end → Ends (setForm (base .key)) s (at + 24) past → Span s used middle at end past
+pub writes-span : {s : List ℕ} {used middle at end past : ℕ} → Leaving s used middle at end → Ends (setForm (base .key)) s (at + writesAt) past → Span s used middle at end past
 writes-span l x =
     let p = writes-part (l .one) (l .part) x in
     let o = open-txn (base .key) (l .part) in
@@ -53,21 +54,21 @@ writes-span l x =
 module _ {s : List ℕ} {used middle at end past : ℕ} (w : Span s used middle at end past) (d : List ℕ) (long : length d ≡ setSize) where
   -- the writes as they are copied
   abbrev pub copy : List ℕ
-  copy = take (past - (at + 24)) (drop (at + 24) s)
+  copy = take (past - (at + writesAt)) (drop (at + writesAt) s)
 
-  copy-length : length copy ≡ past - (at + 24)
-  copy-length = length-take-le (past - (at + 24)) (drop (at + 24) s) (rw length-drop (omega (arith, w .from, w .inside)))
+  copy-length : length copy ≡ past - (at + writesAt)
+  copy-length = length-take-le (past - (at + writesAt)) (drop (at + writesAt) s) (rw length-drop (omega (arith, w .from, w .inside)))
 
   pub copy-fits : 0 + length copy ≤ length d
   copy-fits = omega (arith, copy-length, long, w .short)
 
   module _ {a : List ℕ} (e : a ≡ paste d 0 copy (length copy)) where
-    pub copied-fits : past - (at + 24) ≤ length a
+    pub copied-fits : past - (at + writesAt) ≤ length a
     copied-fits = omega (arith, w .short, long, ap length e, length-paste d 0 copy (length copy) copy-fits (le-refl _))
 
-    pub entry-fits : {s1 : List ℕ} → Spliced s used at (end - at) [] s1 → (middle ≤ used - (end - at)) × (used - (end - at) + (8 + length (take (past - (at + 24) - 0) a)) ≤ length s1)
+    pub entry-fits : {s1 : List ℕ} → Spliced s used at (end - at) [] s1 → (middle ≤ used - (end - at)) × (used - (end - at) + (numberSize + length (take (past - (at + writesAt) - 0) a)) ≤ length s1)
     entry-fits x =
-        let n : length (take (past - (at + 24) - 0) a) ≡ past - (at + 24) - 0 = length-take-le (past - (at + 24) - 0) a (omega (arith, copied-fits)) in
+        let n : length (take (past - (at + writesAt) - 0) a) ≡ past - (at + writesAt) - 0 = length-take-le (past - (at + writesAt) - 0) a (omega (arith, copied-fits)) in
         (omega (arith, w .after, w .from, w .to, w .within), omega (arith, n, x .size, w .from, w .to, w .within, w .room))
 
 -- a copy at the front of a draft
@@ -76,16 +77,16 @@ front-of d a x n e l =
     let f : take (length x) x ≡ x = take-all (length x) x (omega arith) in
     ap (take n) (e ∙ ap (λ (y : List ℕ). y ++ drop (0 + length x) d) f) ∙ take-at x (drop (0 + length x) d) n l
 
-pub entered : {s s1 s2 a : List ℕ} {used middle at end seq : ℕ} (past : ℕ) (d : List ℕ) → Ends (setForm (base .key)) s (at + 24) past → a ≡ paste d 0 (take (past - (at + 24)) (drop (at + 24) s)) (length (take (past - (at + 24)) (drop (at + 24) s)))
-    → Spliced s used at (end - at) [] s1 → Spliced s1 (used - (end - at)) middle 0 (number 8 .write seq ++ take (past - (at + 24) - 0) a) s2 → Entered s used middle at end seq s2
+pub entered : {s s1 s2 a : List ℕ} {used middle at end seq : ℕ} (past : ℕ) (d : List ℕ) → Ends (setForm (base .key)) s (at + writesAt) past → a ≡ paste d 0 (take (past - (at + writesAt)) (drop (at + writesAt) s)) (length (take (past - (at + writesAt)) (drop (at + writesAt) s)))
+    → Spliced s used at (end - at) [] s1 → Spliced s1 (used - (end - at)) middle 0 (number numberSize .write seq ++ take (past - (at + writesAt) - 0) a) s2 → Entered s used middle at end seq s2
 entered {s} {s1} {s2} {a} {used} {middle} {at} {end} {seq} past d x e y z =
     record {
-      is = λ t p. record { rest = s1; leaves = y; enters = subst (λ (k : List ℕ). Spliced s1 (used - (end - at)) middle 0 (number 8 .write seq ++ k) s2) (copied t (writes-part t p x)) z };
+      is = λ t p. record { rest = s1; leaves = y; enters = subst (λ (k : List ℕ). Spliced s1 (used - (end - at)) middle 0 (number numberSize .write seq ++ k) s2) (copied t (writes-part t p x)) z };
     }
   where
-    copied : (t : Txn) → Part (setForm (base .key)) s (at + 24) (t .writes) past → take (past - (at + 24) - 0) a ≡ setForm (base .key) .write (t .writes)
+    copied : (t : Txn) → Part (setForm (base .key)) s (at + writesAt) (t .writes) past → take (past - (at + writesAt) - 0) a ≡ setForm (base .key) .write (t .writes)
     copied t p =
-        let n : past - (at + 24) - 0 ≡ past - (at + 24) = omega arith in
-        let b : take (past - (at + 24)) (drop (at + 24) s) ≡ setForm (base .key) .write (t .writes) = sym (drop-take (at + 24) past s) ∙ part-slice (setForm (base .key)) p in
-        let l : length (take (past - (at + 24)) (drop (at + 24) s)) ≡ past - (at + 24) = ap length b ∙ omega (arith, part-end (setForm (base .key)) p) in
-        ap (λ (m : ℕ). take m a) n ∙ front-of d a (take (past - (at + 24)) (drop (at + 24) s)) (past - (at + 24)) e l ∙ b
+        let n : past - (at + writesAt) - 0 ≡ past - (at + writesAt) = omega arith in
+        let b : take (past - (at + writesAt)) (drop (at + writesAt) s) ≡ setForm (base .key) .write (t .writes) = sym (drop-take (at + writesAt) past s) ∙ part-slice (setForm (base .key)) p in
+        let l : length (take (past - (at + writesAt)) (drop (at + writesAt) s)) ≡ past - (at + writesAt) = ap length b ∙ omega (arith, part-end (setForm (base .key)) p) in
+        ap (λ (m : ℕ). take m a) n ∙ front-of d a (take (past - (at + writesAt)) (drop (at + writesAt) s)) (past - (at + writesAt)) e l ∙ b

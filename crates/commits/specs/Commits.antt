@@ -5,6 +5,7 @@ use lib.ListN.{length}
 use Rattle.machine.specs.State.{Txn, base}
 use Rattle.codec.specs.Formats.{number}
 use Rattle.moves.specs.Splices.{Spliced}
+use Rattle.layout.specs.Offsets.{numberSize}
 use Rattle.layout.specs.Keys.{setForm}
 use Rattle.layout.specs.Records.{txnForm}
 use Rattle.layout.specs.Places.{Part}
@@ -23,7 +24,7 @@ pub record Leaving (s : List ℕ) (used middle at end : ℕ) : Type 0 where
 pub record EnteredFor (s : List ℕ) (used middle at end seq : ℕ) (t : Txn) (s' : List ℕ) : Type 0 where
   pub rest : List ℕ
   pub leaves : Spliced s used at (end - at) [] rest
-  pub enters : Spliced rest (used - (end - at)) middle 0 (number 8 .write seq ++ setForm (base .key) .write (t .writes)) s'
+  pub enters : Spliced rest (used - (end - at)) middle 0 (number numberSize .write seq ++ setForm (base .key) .write (t .writes)) s'
 
 pub record Entered (s : List ℕ) (used middle at end seq : ℕ) (s' : List ℕ) : Type 0 where
   pub is : (t : Txn) → Part (txnForm (base .key)) s at t end → EnteredFor s used middle at end seq t s'

@@ -4,10 +4,11 @@ ghost use Rattle.layout.specs.Rooms.{Served};
 ghost use Rattle.room.specs.Views.{Seen};
 ghost use Rattle.commits.specs.Batches.{Entering};
 use answers::Answer;
+use codec::numbers::larger;
 use codec::numbers::write_two;
+use edits::leaving::empty_recent_committed_txns;
 use edits::oracle::advance_committed_seq;
 use edits::put_entry;
-use edits::write_fresh;
 use fields::Form;
 use fields::check_keys;
 use layout::ENTRY_COUNT;
@@ -16,7 +17,6 @@ use room::ceilings::BYTE_LIMIT;
 use room::ceilings::ENTRY_LIMIT;
 use room::ceilings::MARK_LIMIT;
 use room::ceilings::SET_SIZE;
-use room::tally::larger;
 use tracks::drafts::Drafted;
 use tracks::drafts::draft_keys;
 
@@ -50,7 +50,7 @@ pub fn batch_entry(room: &mut [u8], v: View, seq: u64, list: &[u8]) -> Answer
         Form::Good => {
             if v.active == 0 {
                 let value = larger(v.last, seq);
-                write_fresh(room, value);
+                empty_recent_committed_txns(room, value);
                 return Answer { status: 0, value };
             }
             if ENTRY_LIMIT <= v.entries {

@@ -4,11 +4,12 @@ ghost use Rattle.layout.specs.Rooms.{Served};
 ghost use Rattle.room.specs.Views.{Seen};
 ghost use Rattle.commits.specs.Commits.{Leaving, Entered};
 use answers::Answer;
+use codec::numbers::larger;
 use codec::numbers::write_two;
+use edits::leaving::empty_recent_committed_txns;
 use edits::oracle::advance_committed_seq;
 use edits::put_entry;
 use edits::remove;
-use edits::write_fresh;
 use layout::ACTIVE_COUNT;
 use layout::ENTRY_COUNT;
 use layout::ID;
@@ -20,7 +21,6 @@ use places::skips::set_past;
 use room::View;
 use room::ceilings::ENTRY_LIMIT;
 use room::ceilings::SET_SIZE;
-use room::tally::larger;
 
 // Takes the transaction from `at` up to `end` out, and puts an entry of its writes in behind the others.
 fn enter_writes(room: &mut [u8], used: usize, middle: usize, at: usize, end: usize, seq: u64)
@@ -53,7 +53,7 @@ pub fn commit_active(room: &mut [u8], v: View, id: &[u8], seq: u64) -> Answer
         Place::Here { at, end } => {
             if active == 1 {
                 let value = larger(v.last, seq);
-                write_fresh(room, value);
+                empty_recent_committed_txns(room, value);
                 return Answer { status: 0, value };
             }
             if ENTRY_LIMIT <= entries {

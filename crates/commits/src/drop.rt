@@ -2,44 +2,15 @@
 ghost use Rattle.machine.specs.Calls.{on, dropTxn};
 ghost use Rattle.layout.specs.Rooms.{Served};
 ghost use Rattle.room.specs.Views.{Seen};
-ghost use Rattle.commits.specs.Drops.{Prunable, Recycled};
 use answers::Answer;
 use codec::numbers::write_two;
-use edits::prune_entries;
+use edits::leaving::recycle_recent_committed_txns;
 use edits::remove;
-use edits::write_fresh;
 use layout::ACTIVE_COUNT;
-use layout::ENTRY_COUNT;
 use layout::ID;
 use places::finds::Place;
 use places::finds::find_txn;
-use places::finds::least_start;
 use room::View;
-
-// Prunes the entries that no active transaction can conflict with, and answers how many are kept.
-fn recycle_recent_committed_txns(
-    room: &mut [u8],
-    last: u64,
-    entries: usize,
-    active: usize,
-    middle: usize,
-    used: usize,
-) -> usize
-    requires { ⌜ Prunable (now room) last entries active middle used ⌝ }
-    ensures { λ r. ⌜ Recycled (now (room .entry)) last entries active middle used (now (room .exit)) r ⌝ }
-{
-    if active == 0 {
-        write_fresh(room, last);
-        return 0;
-    }
-    let least = least_start(room, middle, active, last);
-    let kept = prune_entries(room, entries, least);
-    let end = kept.end;
-    let count = kept.count;
-    remove(room, used, end, middle - end);
-    write_two(room, ENTRY_COUNT, count);
-    count
-}
 
 // "Drop: remove the id if active, then prune, even for an unknown id."
 pub fn drop_active(room: &mut [u8], v: View, id: &[u8]) -> Answer

@@ -1,3 +1,4 @@
+-- The number that advances is the larger of the one that was read and the new one.
 use Prim.Native.Nat.{ℕ, max}
 use mathlib.Core.Path.{_≡_, refl, sym, ap, _∙_}
 use mathlib.Core.List.{List}
@@ -6,11 +7,12 @@ use lib.Seq.{paste}
 use Rattle.codec.specs.Codec.{item}
 use Rattle.codec.specs.Formats.{number}
 use Rattle.codec.specs.Places.{Stands}
+use Rattle.layout.specs.Offsets.{numberSize, lastAt, partAt}
 use Rattle.edits.specs.Advance.{Advanced}
 
-pub advances : {s s' : List ℕ} {last seq r : ℕ} → Stands (number 8) s 8 last 16 → r ≡ max last seq → s' ≡ paste s 8 (number 8 .write r) 8 → Advanced s seq s' r
+pub advances : {s s' : List ℕ} {last seq r : ℕ} → Stands (number numberSize) s lastAt last partAt → r ≡ max last seq → s' ≡ paste s lastAt (number numberSize .write r) numberSize → Advanced s seq s' r
 advances {s} {s'} {last} {seq} {r} w e b =
     record {
-      larger = λ l v. let g : item last (drop 16 s) ≡ item l (drop 16 s) = sym (w .reads) ∙ v .reads in let h : last ≡ l = cc g in e ∙ ap (λ (n : ℕ). max n seq) h;
+      larger = λ l v. let g : item last (drop partAt s) ≡ item l (drop partAt s) = sym (w .reads) ∙ v .reads in let h : last ≡ l = cc g in e ∙ ap (λ (n : ℕ). max n seq) h;
       bytes = b;
     }

@@ -16,13 +16,14 @@ use Rattle.codec.specs.Codec.{Codec, writeRun}
 use Rattle.codec.specs.Formats.{number}
 use Rattle.codec.specs.Places.{Stands}
 use Rattle.moves.proofs.SpliceLaws.{drop-take, later}
+use Rattle.layout.specs.Offsets.{numberSize, entriesAt, keysAt}
 use Rattle.layout.specs.Records.{entryForm}
 use Rattle.layout.specs.Places.{Part, Row, Rows, Here, Ends}
 use Rattle.layout.proofs.PartLaws.{part-slice, part-end, number-read-is}
 use Rattle.layout.proofs.RowLaws.{row-inside, row-one, write-append}
 use Rattle.layout.proofs.OpenLaws.{open-entry}
-use Rattle.edits.specs.declared.Kept.{Kept}
-use Rattle.edits.specs.Edits.{keptFrom, PrunedTo, Prunes}
+use Rattle.edits.specs.declared.leaving.Kept.{Kept}
+use Rattle.edits.specs.Leaving.{keptFrom, PrunedTo, Prunes}
 
 abbrev E : Codec Entry
 E = entryForm (base .key)
@@ -34,21 +35,21 @@ same-part C s r at e a d l p = record { stands = record { reads = rw (d, later s
 pub record Pruning (s : List ℕ) (n least : ℕ) (r : List ℕ) (end from count left : ℕ) : Type 0 where
   pub es : List Entry
   pub stop : ℕ
-  pub whole : Row E s 20 es stop
+  pub whole : Row E s entriesAt es stop
   pub many : length es ≡ n
   pub past : List Entry
   pub rest : List Entry
   pub split : es ≡ past ++ rest
   pub row : Row E s from rest stop
   pub left-is : left ≡ length rest
-  pub front : take end r ≡ take 20 s ++ writeRun E (keptFrom least past)
+  pub front : take end r ≡ take entriesAt s ++ writeRun E (keptFrom least past)
   pub behind : drop from r ≡ drop from s
   pub size : length r ≡ length s
   pub count-is : count ≡ length (keptFrom least past)
   pub within : end ≤ from
   pub few : count + left ≤ n
 
-pub prune-start : (s : List ℕ) (n least : ℕ) → Rows E s 20 n → Pruning s n least s 20 20 0 n
+pub prune-start : (s : List ℕ) (n least : ℕ) → Rows E s entriesAt n → Pruning s n least s entriesAt entriesAt 0 n
 unfolding keep writeRun
 prune-start s n least w =
     record {
@@ -61,7 +62,7 @@ prune-start s n least w =
       split = refl;
       row = w .row;
       left-is = sym (w .count);
-      front = sym (append-nil (take 20 s));
+      front = sym (append-nil (take entriesAt s));
       behind = refl;
       size = refl;
       count-is = refl;
@@ -112,7 +113,7 @@ module _ {s : List ℕ} {n least : ℕ} {r : List ℕ} {end from count left : �
   pub here : Here E r from
   here = record { val = turn .x; end = turn .end; part = turn .part }
 
-  pub room-for-seq : from + 8 ≤ length r
+  pub room-for-seq : from + keysAt ≤ length r
   room-for-seq =
       let o = open-entry (base .key) (turn .part) in
       omega (arith, o .seq-at .inside)
@@ -124,9 +125,9 @@ module _ {s : List ℕ} {n least : ℕ} {r : List ℕ} {end from count left : �
     pub ahead : (from ≤ next) × (next ≤ length r)
     ahead = (omega (arith, next-is, turn .part .from), omega (arith, next-is, turn .part .inside))
 
-    module _ (q : ℕ) (g : Stands (number 8) r from q (from + 8)) where
+    module _ (q : ℕ) (g : Stands (number numberSize) r from q (from + keysAt)) where
       seq-is : q ≡ turn .x .seq
-      seq-is = number-read-is 8 (open-entry (base .key) (turn .part) .seq-at) g
+      seq-is = number-read-is numberSize (open-entry (base .key) (turn .part) .seq-at) g
 
       pub prune-drop : q < least → Pruning s n least r end next count (left - 1)
       prune-drop k =
@@ -167,7 +168,7 @@ module _ {s : List ℕ} {n least : ℕ} {r : List ℕ} {end from count left : �
             split = turn .split;
             row = rw next-is (turn .row);
             left-is = omega (arith, turn .fewer);
-            front = t ∙ rw (v .front, x, kept, write-append E (keptFrom least (v .past)) (turn .x ∷ []), write-one (turn .x)) (append-assoc (take 20 s) (writeRun E (keptFrom least (v .past))) (E .write (turn .x)));
+            front = t ∙ rw (v .front, x, kept, write-append E (keptFrom least (v .past)) (turn .x ∷ []), write-one (turn .x)) (append-assoc (take entriesAt s) (writeRun E (keptFrom least (v .past))) (E .write (turn .x)));
             behind = later r r' (end + d) next (omega (arith, v .within, ahead .0)) u ∙ later s r from next (ahead .0) (v .behind);
             size = ap length e ∙ length-paste r end (drop from r) d a b ∙ v .size;
             count-is = ap (λ (m : ℕ). m + 1) (v .count-is) ∙ sym (ap length kept ∙ length-append (keptFrom least (v .past)) (turn .x ∷ []));
@@ -178,10 +179,10 @@ module _ {s : List ℕ} {n least : ℕ} {r : List ℕ} {end from count left : �
 pub prune-end : {s : List ℕ} {n least : ℕ} {r : List ℕ} {end from count left : ℕ} → Pruning s n least r end from count left → left ≤ 0 → Prunes s n least r (record { count = count; end = end })
 prune-end {s} {n} {least} {r} {end} {from} {count} {left} v h = record { is = λ es e w l. go es e w l (v .rest) refl }
   where
-    go : (es : List Entry) (e : ℕ) → Row E s 20 es e → length es ≡ n → (rest : List Entry) → v .rest ≡ rest → PrunedTo s least es e r (record { count = count; end = end })
+    go : (es : List Entry) (e : ℕ) → Row E s entriesAt es e → length es ≡ n → (rest : List Entry) → v .rest ≡ rest → PrunedTo s least es e r (record { count = count; end = end })
     go es e w l (x ∷ rest) q = absurd (omega (arith, h, v .left-is, ap length q))
     go es e w l [] q =
-        let o = row-one E s 20 es (v .es) e (v .stop) w (v .whole) (l ∙ sym (v .many)) in
+        let o = row-one E s entriesAt es (v .es) e (v .stop) w (v .whole) (l ∙ sym (v .many)) in
         let p : v .past ≡ es = sym (append-nil (v .past)) ∙ ap (λ (y : List Entry). v .past ++ y) (sym q) ∙ sym (v .split) ∙ sym (o .0) in
         let f : from ≡ e = at-end (v .rest) q (v .row) ∙ sym (o .1) in
         record {

@@ -5,7 +5,8 @@ use mathlib.Core.List.{List}
 use lib.Seq.{paste}
 use Rattle.codec.specs.Formats.{number}
 use Rattle.codec.specs.Places.{Stands}
+use Rattle.layout.specs.Offsets.{numberSize, lastAt, partAt}
 
 pub record Advanced (s : List ℕ) (seq : ℕ) (s' : List ℕ) (r : ℕ) : Type 0 where
-  pub larger : (last : ℕ) → Stands (number 8) s 8 last 16 → r ≡ max last seq
-  pub bytes : s' ≡ paste s 8 (number 8 .write r) 8
+  pub larger : (last : ℕ) → Stands (number numberSize) s lastAt last partAt → r ≡ max last seq
+  pub bytes : s' ≡ paste s lastAt (number numberSize .write r) numberSize

@@ -15,7 +15,7 @@ use Rattle.machine.proofs.Kept.{fits-means}
 use Rattle.codec.specs.Codec.{RunOk}
 use Rattle.codec.specs.Formats.{number, bind, only, via, run}
 use Rattle.layout.specs.Keys.{anyOrder}
-use Rattle.layout.specs.Records.{entryForm, txnForm, entriesForm, activeForm, belowId, headForm}
+use Rattle.layout.specs.Records.{entryForm, txnForm, entriesForm, activeForm, belowId, headForm, countsForm, partForm}
 use Rattle.layout.specs.States.{plainForm, highest, seqOf, startOf, inTime, idle, sound, stateForm}
 use Rattle.layout.proofs.MachineLaws.{less-lt, entry-ok, ok-entry, txn-ok, ok-txn}
 
@@ -85,7 +85,7 @@ base-small = record { active = omega arith; entries = omega arith; marks = omega
 
 -- every machine state has a record, if its last number fits
 pub machine-holds : (L : Ceilings) (s : State) → Small L → MachineState L s → s .last < 256 ^ 8 → stateForm L .Ok s
-unfolding stateForm only plainForm via bind headForm number entriesForm activeForm run sound inTime
+unfolding stateForm only plainForm partForm via bind headForm countsForm number entriesForm activeForm run sound inTime
 machine-holds L s w o l =
     let f = o .ceilings in
     let me : sum entryMarks (s .entries) < 65536 = omega (arith, f .marks, w .marks) in
@@ -93,8 +93,8 @@ machine-holds L s w o l =
     let he : highest seqOf (s .entries) ≤ s .last = highest-below seqOf (s .last) (s .entries) (mapped-entries (s .entries) (o .entries)) in
     let ht : highest startOf (s .active) ≤ s .last = highest-below startOf (s .last) (s .active) (mapped-active (s .active) (o .txns)) in (
       (
-        ((omega arith, refl), (l, (omega (arith, f .entries, w .entries), omega (arith, f .active, w .active)))),
-        ((entries-run L (s .last) none (s .entries) (w .key) l me (o .entries), refl), (active-run L (s .last) (s .active) (w .key) l mt (o .txns) (o .distinct), refl)),
+        ((omega arith, refl), l),
+        ((omega (arith, f .entries, w .entries), omega (arith, f .active, w .active)), ((entries-run L (s .last) none (s .entries) (w .key) l me (o .entries), refl), (active-run L (s .last) (s .active) (w .key) l mt (o .txns) (o .distinct), refl))),
       ),
       rw (fits-means L s .1 f, le-leb _ _ he, le-leb _ _ ht) (idle-true (s .active) (s .entries) (o .idle)),
     )
@@ -109,7 +109,7 @@ machine-holds L s w o l =
 
 -- what has a record is a machine state
 pub holds-machine : (L : Ceilings) (s : State) → stateForm L .Ok s → MachineState L s × (s .last < 256 ^ 8)
-unfolding stateForm only plainForm via bind headForm number entriesForm activeForm run sound inTime
+unfolding stateForm only plainForm partForm via bind headForm countsForm number entriesForm activeForm run sound inTime
 holds-machine L s o =
     let b = and-eq-true-iff (fits L s) ((leb (highest seqOf (s .entries)) (s .last) && leb (highest startOf (s .active)) (s .last)) && idle (s .active) (s .entries)) .0 (o .1) in
     let c = and-eq-true-iff (leb (highest seqOf (s .entries)) (s .last) && leb (highest startOf (s .active)) (s .last)) (idle (s .active) (s .entries)) .0 (b .1) in
@@ -118,10 +118,10 @@ holds-machine L s o =
     let ht = below-highest startOf (s .last) (s .active) (leb-true _ _ (d .1)) in (
       record {
         ceilings = fits-means L s .0 (b .0);
-        distinct = run-distinct L (s .last) (s .active) (o .0 .1 .1 .0);
-        txns = run-active L (s .last) none (s .active) ht (o .0 .1 .1 .0);
-        entries = run-entries L (s .last) none (s .entries) he (o .0 .1 .0 .0);
+        distinct = run-distinct L (s .last) (s .active) (o .0 .1 .1 .1 .0);
+        txns = run-active L (s .last) none (s .active) ht (o .0 .1 .1 .1 .0);
+        entries = run-entries L (s .last) none (s .entries) he (o .0 .1 .1 .0 .0);
         idle = true-idle (s .active) (s .entries) (c .1);
       },
-      o .0 .0 .1 .0,
+      o .0 .0 .1,
     )

@@ -8,9 +8,9 @@ use native.Mathlib.Omega.{arith}
 use borrow.Author.Tests.{lt-ltb, le-ltb, ltb-false}
 use lib.Dec.{ltb}
 use lib.ListN.{length, drop}
-use Rattle.machine.specs.State.{State, Ceilings, base, MachineState}
+use Rattle.machine.specs.State.{State, freshState, Ceilings, base, MachineState}
 use Rattle.machine.specs.Calls.{Op, Call, fresh, on, isCommitOrDrop, Room, short, broken, holding, Refusal, refusalStatus, Answer, done, absent, refused, replied, reply}
-use Rattle.machine.specs.Serve.{state, answer, serve}
+use Rattle.machine.specs.Serve.{answer, serve}
 use Rattle.machine.proofs.Kept.{RoomOk, fresh-ok, serve-keeps}
 use Rattle.codec.specs.Codec.{Item, item, cut}
 use Rattle.codec.specs.Formats.{only}
@@ -122,16 +122,16 @@ module _ (s s' : List ℕ) (st st' : State) (c : Op) (h : load base s ≡ holdin
       let f : serve base (holding st) (on c) .room ≡ holding st' = ap (λ (x : Answer). reply st x .room) e in
       record { answers = rw (h, e, after f); kept = λ k. absurd (omega (arith, k)); absent = λ k g. absurd (true≢false (sym d ∙ g)); beyond = w .beyond; size = w .size }
 
-not-short : (L : Ceilings) (room : Room) (n : ℕ) → (room ≡ short → ⊥) → serve L room (fresh n) ≡ replied 0 n (holding (state n [] []))
+not-short : (L : Ceilings) (room : Room) (n : ℕ) → (room ≡ short → ⊥) → serve L room (fresh n) ≡ replied 0 n (holding (freshState n))
 unfolding serve
 not-short L short n h = absurd (h refl)
 not-short L broken n h = refl
 not-short L (holding s) n h = refl
 
-pub make-fresh : (s s' : List ℕ) (n : ℕ) → roomSize base ≤ length s → Changed s s' (state n [] []) → Served s (fresh n) 0 n s'
+pub make-fresh : (s s' : List ℕ) (n : ℕ) → roomSize base ≤ length s → Changed s s' (freshState n) → Served s (fresh n) 0 n s'
 make-fresh s s' n h w =
     record {
-      answers = not-short base (load base s) n long ∙ ap (replied 0 n) (sym (load-writes s' (omega (arith, h, w .size)) (state n [] []) (w .writes) (fresh-ok base n) (w .last)));
+      answers = not-short base (load base s) n long ∙ ap (replied 0 n) (sym (load-writes s' (omega (arith, h, w .size)) (freshState n) (w .writes) (fresh-ok base n) (w .last)));
       kept = λ k. absurd (omega (arith, k));
       absent = λ k d. absurd (omega (arith, k));
       beyond = w .beyond;

@@ -15,10 +15,11 @@ use Rattle.fields.specs.Forms.{boundTag}
 use Rattle.machine.specs.State.{Bytes}
 use Rattle.codec.specs.Codec.{Codec}
 use Rattle.codec.specs.Formats.{number, raw, bind, only, via, run}
+use Rattle.layout.specs.Offsets.{countSize, lengthSize, tagSize}
 
--- a key of at most m bytes: its length in two bytes, and its bytes
+-- a key of at most m bytes: its length, and its bytes
 abbrev pub KeyRaw : ℕ → Codec (ℕ × Bytes)
-KeyRaw m = bind (only (number 2) (λ n. leb n m)) raw
+KeyRaw m = bind (only (number lengthSize) (λ n. leb n m)) raw
 
 pub key-same : (m : ℕ) (p : ℕ × Bytes) → KeyRaw m .Ok p → (length (p .1), p .1) ≡ p
 unfolding bind raw
@@ -27,9 +28,9 @@ key-same m p o = ap (λ (n : ℕ). (n, p .1)) (o .1)
 unfoldable pub keyForm : ℕ → Codec Bytes
 keyForm m = via (KeyRaw m) (λ p. p .1) (λ k. (length k, k)) (λ b. refl) (key-same m)
 
--- a list of records: their count in two bytes, and one after another
+-- a list of records: their count, and one after another
 abbrev pub ListRaw : {A : Type 0} → Codec A → (A → A → Bool) → Codec (ℕ × List A)
-ListRaw C before = bind (number 2) (run C before)
+ListRaw C before = bind (number countSize) (run C before)
 
 pub list-same : {A : Type 0} (C : Codec A) (before : A → A → Bool) (p : ℕ × List A) → ListRaw C before .Ok p → (length (p .1), p .1) ≡ p
 unfolding bind run
@@ -62,7 +63,7 @@ abbrev pub tagged : Bound → ℕ × Bytes
 tagged b = (boundTag (kindOf b), keyOf b)
 
 abbrev pub BoundRaw : ℕ → Codec (ℕ × Bytes)
-BoundRaw m = bind (only (number 1) isTag) (λ t. keyForm (tagLimit m t))
+BoundRaw m = bind (only (number tagSize) isTag) (λ t. keyForm (tagLimit m t))
 
 pub bound-back : (b : Bound) → boundAs (boundTag (kindOf b)) (keyOf b) ≡ b
 bound-back unbounded = refl

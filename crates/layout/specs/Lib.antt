@@ -1,3 +1,4 @@
+pub mod Offsets
 pub mod Demands
 pub mod Keys
 pub mod Records

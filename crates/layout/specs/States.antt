@@ -1,37 +1,52 @@
--- The record of a state: the head, the entries, the active transactions, one after another.
+-- The record of a state: the room's head, and its part.
 use Prim.Native.Nat.{ℕ, _+_, _*_, max}
-use mathlib.Core.Path.{_≡_, refl, ap₂}
+use mathlib.Core.Path.{refl}
 use mathlib.Core.Bool.{Bool, true, false, _&&_}
-use mathlib.Core.List.{List, [], _∷_}
+use mathlib.Core.List.{List, [], _∷_, _++_}
 use lib.Dec.{leb}
 use lib.ListN.{length}
 use Rattle.machine.specs.State.{Txn, Entry, State, Ceilings, fits}
-use Rattle.machine.specs.Serve.{state}
 use Rattle.codec.specs.Codec.{Codec}
-use Rattle.codec.specs.Formats.{bind, only, via, run}
-use Rattle.layout.specs.Records.{Head, headForm, entriesForm, activeForm}
+use Rattle.codec.specs.Formats.{bind, only, via}
+use Rattle.layout.specs.Offsets.{entriesAt, entrySize, txnSize, markSize}
+use Rattle.layout.specs.Records.{headForm, countsForm, Content, partForm}
 
-abbrev pub StateRaw : ℕ → Codec (Head × (List Entry × List Txn))
-StateRaw m = bind headForm (λ h. bind (entriesForm m (h .entries)) (λ es. activeForm m (h .active)))
+abbrev pub StateRaw : ℕ → Codec (ℕ × Content)
+StateRaw m = bind headForm (λ l. partForm m)
 
-abbrev pub toState : Head × (List Entry × List Txn) → State
-toState p = state (p .0 .last) (p .1 .1) (p .1 .0)
+abbrev pub toState : ℕ × Content → State
+toState p = record { last = p .0; active = p .1 .active; entries = p .1 .entries }
 
-abbrev pub headOf : State → Head
-headOf s = record { last = s .last; entries = length (s .entries); active = length (s .active) }
+abbrev pub contentOf : State → Content
+contentOf s = record { entries = s .entries; active = s .active }
 
-abbrev pub ofState : State → Head × (List Entry × List Txn)
-ofState s = (headOf s, (s .entries, s .active))
-
-pub state-same : (m : ℕ) (p : Head × (List Entry × List Txn)) → StateRaw m .Ok p → ofState (toState p) ≡ p
-unfolding bind entriesForm activeForm run
-state-same m p o =
-    let a : length (p .1 .0) ≡ p .0 .entries = o .1 .0 .1 in
-    let b : length (p .1 .1) ≡ p .0 .active = o .1 .1 .1 in
-    ap₂ (λ (n k : ℕ). (record { last = p .0 .last; entries = n; active = k }, p .1)) a b
+abbrev pub ofState : State → ℕ × Content
+ofState s = (s .last, contentOf s)
 
 unfoldable pub plainForm : ℕ → Codec State
-plainForm m = via (StateRaw m) toState ofState (λ b. refl) (state-same m)
+plainForm m = via (StateRaw m) toState ofState (λ b. refl) (λ a o. refl)
+
+-- the numbers that stand before the entries: of the room's head the last one, and the counts of its part
+pub record Heads : Type 0 where
+  pub last : ℕ
+  pub entries : ℕ
+  pub active : ℕ
+
+abbrev pub headsOf : State → Heads
+headsOf s = record { last = s .last; entries = length (s .entries); active = length (s .active) }
+
+abbrev pub writeHeads : Heads → List ℕ
+writeHeads h = headForm .write (h .last) ++ countsForm .write (record { entries = h .entries; active = h .active })
+
+-- each of them is changed by its own function, so that a number more moves these alone
+abbrev pub setLast : ℕ → Heads → Heads
+setLast n h = record { last = n; entries = h .entries; active = h .active }
+
+abbrev pub setEntryCount : ℕ → Heads → Heads
+setEntryCount n h = record { last = h .last; entries = n; active = h .active }
+
+abbrev pub setActiveCount : ℕ → Heads → Heads
+setActiveCount n h = record { last = h .last; entries = h .entries; active = n }
 
 -- "starts and sequences at most the last number"
 unfoldable pub highest : {A : Type 0} → (A → ℕ) → List A → ℕ
@@ -61,6 +76,6 @@ sound L s = fits L s && (inTime s && idle (s .active) (s .entries))
 unfoldable pub stateForm : Ceilings → Codec State
 stateForm L = only (plainForm (L .key)) (sound L)
 
--- what a head, an entry, a transaction, a key and a range take beside key bytes; a range takes more than a key
+-- what the heads, the entries, the transactions and the marks take beside key bytes
 abbrev pub roomSize : Ceilings → ℕ
-roomSize L = 20 + 10 * L .entries + 30 * L .active + 6 * L .marks + L .bytes
+roomSize L = entriesAt + entrySize * L .entries + txnSize * L .active + markSize * L .marks + L .bytes

@@ -15,6 +15,7 @@ use Rattle.codec.specs.Formats.{number, raw, bind, via}
 use Rattle.codec.specs.Places.{Stands}
 use Rattle.codec.proofs.NumberLaws.{length-number}
 use Rattle.codec.proofs.RecordLaws.{too-short, stands-length}
+use Rattle.layout.specs.Offsets.{numberSize, idSize, keysAt, startAt, writesAt}
 use Rattle.layout.specs.Keys.{setForm, rangesForm}
 use Rattle.layout.specs.Records.{entryForm, txnForm}
 use Rattle.room.specs.declared.tally.Tally.{Tally}
@@ -26,16 +27,16 @@ use Rattle.room.proofs.SetLaws.{number-short}
 -- ---- entries
 
 module _ (s : List ℕ) (at : ℕ) where
-  pub entry-short : length s - at < 8 → Missing (entryForm keyLimit) s at
+  pub entry-short : length s - at < keysAt → Missing (entryForm keyLimit) s at
   unfolding entryForm via bind
-  entry-short h = record { reads = rw (number-short 8 s at h) }
+  entry-short h = record { reads = rw (number-short numberSize s at h) }
 
-  module _ (n : ℕ) (r : Stands (number 8) s at n (at + 8)) where
-    pub entry-cut : Missing (setForm keyLimit) s (at + 8) → Missing (entryForm keyLimit) s at
+  module _ (n : ℕ) (r : Stands (number numberSize) s at n (at + keysAt)) where
+    pub entry-cut : Missing (setForm keyLimit) s (at + keysAt) → Missing (entryForm keyLimit) s at
     unfolding entryForm via bind
     entry-cut m = record { reads = rw (r .reads, m .reads) }
 
-    pub entry-got : {t : Tally} → Got aSet s (at + 8) t → Got anEntry s at (record { end = t .end; marks = t .marks; bytes = t .bytes; high = n })
+    pub entry-got : {t : Tally} → Got aSet s (at + keysAt) t → Got anEntry s at (record { end = t .end; marks = t .marks; bytes = t .bytes; high = n })
     unfolding entryForm via bind
     entry-got {t} g = record {
       val = record { seq = n; keys = g .val };
@@ -48,50 +49,50 @@ module _ (s : List ℕ) (at : ℕ) where
 
 -- ---- transactions
 
-least-txn : (t : Txn) → txnForm keyLimit .Ok t → 24 ≤ length (txnForm keyLimit .write t)
+least-txn : (t : Txn) → txnForm keyLimit .Ok t → writesAt ≤ length (txnForm keyLimit .write t)
 unfolding txnForm via bind raw
-least-txn t o = simp length-append (omega (arith, o .0, length-number 8 (t .start)))
+least-txn t o = simp length-append (omega (arith, o .0, length-number numberSize (t .start)))
 
 -- a transaction's label is its id, which stands first
 abbrev pub idOf : Txn → Bytes
 idOf t = t .id
 
 abbrev pub idAt : List ℕ → ℕ → ℕ → Bytes
-idAt s p e = take 16 (drop p s)
+idAt s p e = take idSize (drop p s)
 
-pub txn-labelled : Labelled aTxn idOf idAt 16
+pub txn-labelled : Labelled aTxn idOf idAt idSize
 unfolding txnForm via bind raw
 txn-labelled s at e t w =
     let x = txnForm keyLimit .read-is (drop at s) t (drop e s) (w .stands .reads) in
     let l : e ≡ at + length (txnForm keyLimit .write t) = stands-length (txnForm keyLimit) (w .stands) (omega (arith, w .from, w .inside)) (w .inside) in
-    let y : List ℕ = number 8 .write (t .start) ++ (setForm keyLimit .write (t .writes) ++ (setForm keyLimit .write (t .reads) ++ rangesForm keyLimit .write (t .ranges))) in
+    let y : List ℕ = number numberSize .write (t .start) ++ (setForm keyLimit .write (t .writes) ++ (setForm keyLimit .write (t .reads) ++ rangesForm keyLimit .write (t .ranges))) in
     let is : drop at s ≡ t .id ++ (y ++ drop e s) = x .0 ∙ append-assoc (t .id) y (drop e s) in
     (omega (arith, l, least-txn t (x .1)), rw is (sym (take-append-seam (t .id) (y ++ drop e s)) ∙ ap (λ (j : ℕ). take j (t .id ++ (y ++ drop e s))) (x .1 .0)))
 
 module _ (s : List ℕ) (at : ℕ) where
-  pub txn-short : length s - at < 24 → Missing (txnForm keyLimit) s at
-  txn-short h = record { reads = too-short (txnForm keyLimit) 24 least-txn (drop at s) (rw (length-drop at s) h) }
+  pub txn-short : length s - at < writesAt → Missing (txnForm keyLimit) s at
+  txn-short h = record { reads = too-short (txnForm keyLimit) writesAt least-txn (drop at s) (rw (length-drop at s) h) }
 
-  module _ (n : ℕ) (h : at + 24 ≤ length s) (r : Stands (number 8) s (at + 16) n (at + 16 + 8)) where
-    sixteen : leb 16 (length (drop at s)) ≡ true
-    sixteen = le-leb 16 (length (drop at s)) (rw (length-drop at s) (omega arith))
+  module _ (n : ℕ) (h : at + writesAt ≤ length s) (r : Stands (number numberSize) s (at + startAt) n (at + startAt + numberSize)) where
+    id-stands : leb idSize (length (drop at s)) ≡ true
+    id-stands = le-leb idSize (length (drop at s)) (rw (length-drop at s) (omega arith))
 
-    start-is : number 8 .read (drop (at + 16) s) ≡ item n (drop (at + 24) s)
-    start-is = let j : at + 16 + 8 ≡ at + 24 = omega arith in r .reads ∙ ap (λ (x : ℕ). item n (drop x s)) j
+    start-is : number numberSize .read (drop (at + startAt) s) ≡ item n (drop (at + writesAt) s)
+    start-is = let j : at + startAt + numberSize ≡ at + writesAt = omega arith in r .reads ∙ ap (λ (x : ℕ). item n (drop x s)) j
 
-    pub no-writes : Missing (setForm keyLimit) s (at + 24) → Missing (txnForm keyLimit) s at
+    pub no-writes : Missing (setForm keyLimit) s (at + writesAt) → Missing (txnForm keyLimit) s at
     unfolding txnForm via bind raw
-    no-writes m = record { reads = rw (sixteen, drop-drop 16 at s, start-is, m .reads) }
+    no-writes m = record { reads = rw (id-stands, drop-drop idSize at s, start-is, m .reads) }
 
-    module _ {w : Tally} (a : Got aSet s (at + 24) w) where
+    module _ {w : Tally} (a : Got aSet s (at + writesAt) w) where
       pub no-reads : Missing (setForm keyLimit) s (w .end) → Missing (txnForm keyLimit) s at
       unfolding txnForm via bind raw
-      no-reads m = record { reads = rw (sixteen, drop-drop 16 at s, start-is, a .part .stands .reads, m .reads) }
+      no-reads m = record { reads = rw (id-stands, drop-drop idSize at s, start-is, a .part .stands .reads, m .reads) }
 
       module _ {u : Tally} (b : Got aSet s (w .end) u) where
         pub no-ranges : Missing (rangesForm keyLimit) s (u .end) → Missing (txnForm keyLimit) s at
         unfolding txnForm via bind raw
-        no-ranges m = record { reads = rw (sixteen, drop-drop 16 at s, start-is, a .part .stands .reads, b .part .stands .reads, m .reads) }
+        no-ranges m = record { reads = rw (id-stands, drop-drop idSize at s, start-is, a .part .stands .reads, b .part .stands .reads, m .reads) }
 
         module _ {x : Tally} (c : Got someRanges s (u .end) x) (sets : Tally) (es : sets ≡ plus w u) where
           pub join-ranges : (sets .marks + sets .bytes ≤ sets .end) × (sets .end + x .marks + x .bytes ≤ x .end)
@@ -100,9 +101,9 @@ module _ (s : List ℕ) (at : ℕ) where
           whole : Got aTxn s at (record { end = x .end; marks = w .marks + u .marks + x .marks; bytes = w .bytes + u .bytes + x .bytes; high = n })
           unfolding txnForm via bind raw
           whole = record {
-            val = record { id = take 16 (drop at s); start = n; writes = a .val; reads = b .val; ranges = c .val };
+            val = record { id = take idSize (drop at s); start = n; writes = a .val; reads = b .val; ranges = c .val };
             part = record {
-              stands = record { reads = rw (sixteen, drop-drop 16 at s, start-is, a .part .stands .reads, b .part .stands .reads, c .part .stands .reads) };
+              stands = record { reads = rw (id-stands, drop-drop idSize at s, start-is, a .part .stands .reads, b .part .stands .reads, c .part .stands .reads) };
               from = omega (arith, a .part .from, b .part .from, c .part .from);
               inside = c .part .inside;
             };

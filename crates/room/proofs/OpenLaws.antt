@@ -12,13 +12,13 @@ use lib.ListN.{length, drop}
 use Rattle.keys.specs.Limit.{keyLimit}
 use Rattle.machine.specs.Lists.{sum}
 use Rattle.machine.specs.State.{Txn, Entry, State, base, marks, keyBytes, txnMarks, entryMarks, txnBytes, entryBytes}
-use Rattle.machine.specs.Serve.{state}
 use Rattle.codec.specs.Codec.{item}
 use Rattle.codec.specs.Formats.{bind, only, via, run}
 use Rattle.codec.proofs.RecordLaws.{stands-length}
+use Rattle.layout.specs.Offsets.{entriesAt}
 use Rattle.layout.specs.Keys.{anyOrder}
-use Rattle.layout.specs.Records.{headForm, entryForm, txnForm, entriesForm, activeForm, belowId}
-use Rattle.layout.specs.States.{plainForm, stateForm, sound, inTime, idle, highest, seqOf, startOf}
+use Rattle.layout.specs.Records.{headForm, entryForm, txnForm, entriesForm, activeForm, partForm, belowId}
+use Rattle.layout.specs.States.{plainForm, stateForm, roomSize, sound, inTime, idle, highest, seqOf, startOf}
 use Rattle.layout.specs.Rooms.{load}
 use Rattle.room.specs.declared.tally.Tally.{Tally}
 use Rattle.room.specs.Counts.{anEntry, aTxn, runOf, plus}
@@ -43,54 +43,54 @@ idle-is (t ∷ ts) es = rw (lt-ltb 0 (length (t ∷ ts)) (omega arith))
 
 module _ (last : ℕ) (ts : List Txn) (es : List Entry) where
   abbrev read : State
-  read = state last ts es
+  read = record { last = last; active = ts; entries = es }
 
   sound-by : (n m k b h : ℕ) → n ≡ length es → m ≡ length ts → k ≡ marks read → b ≡ keyBytes read → h ≡ max (highest seqOf es) (highest startOf ts)
-      → (leb m 32 && leb n 128 && leb k 1024 && leb b 32768 && (leb h last && (ltb 0 m || eqb n 0))) ≡ sound base read
+      → (leb m (base .active) && leb n (base .entries) && leb k (base .marks) && leb b (base .bytes) && (leb h last && (ltb 0 m || eqb n 0))) ≡ sound base read
   unfolding sound inTime
   sound-by n m k b h en em ek eb eh = rw (en, em, ek, eb, eh, leb-max (highest seqOf es) (highest startOf ts) last, idle-is ts es)
 
 -- ---- a room that holds no state
 
-pub too-small : {s : List ℕ} → length s < 41172 → NoState s
+pub too-small : {s : List ℕ} → length s < roomSize base → NoState s
 unfolding load
-too-small {s} h = record { none = inl (rw (lt-ltb (length s) 41172 h)) }
+too-small {s} h = record { none = inl (rw (lt-ltb (length s) (roomSize base) h)) }
 
-module _ {s : List ℕ} (size : 41172 ≤ length s) where
+module _ {s : List ℕ} (size : roomSize base ≤ length s) where
   no-state : Missing (stateForm base) s 0 → NoState s
   unfolding load
-  no-state m = record { none = inr (rw (le-ltb (length s) 41172 size, m .reads)) }
+  no-state m = record { none = inr (rw (le-ltb (length s) (roomSize base) size, m .reads)) }
 
   pub no-head : Missing headForm s 0 → NoState s
   unfolding stateForm plainForm only via bind
   no-head m = no-state (record { reads = rw (m .reads) })
 
   module _ {top : Top} (h : HeadIs s top) where
-    pub no-entries : Missing (run (entryForm keyLimit) anyOrder (top .entries)) s 20 → NoState s
-    unfolding stateForm plainForm entriesForm only via bind
-    no-entries m = no-state (record { reads = rw (h .stands .reads, m .reads) })
+    pub no-entries : Missing (run (entryForm keyLimit) anyOrder (top .entries)) s entriesAt → NoState s
+    unfolding stateForm plainForm partForm entriesForm only via bind
+    no-entries m = no-state (record { reads = rw (h .head .reads, h .counts .reads, m .reads) })
 
-    module _ {t : Tally} (e : Got (runOf anEntry anyOrder (top .entries)) s 20 t) where
+    module _ {t : Tally} (e : Got (runOf anEntry anyOrder (top .entries)) s entriesAt t) where
       pub no-active : Missing (run (txnForm keyLimit) belowId (top .active)) s (t .end) → NoState s
-      unfolding stateForm plainForm entriesForm activeForm only via bind
-      no-active m = no-state (record { reads = rw (h .stands .reads, e .part .stands .reads, m .reads) })
+      unfolding stateForm plainForm partForm entriesForm activeForm only via bind
+      no-active m = no-state (record { reads = rw (h .head .reads, h .counts .reads, e .part .stands .reads, m .reads) })
 
       module _ {u : Tally} (a : Got (runOf aTxn belowId (top .active)) s (t .end) u) where
         abbrev st : State
-        st = state (top .last) (a .val) (e .val)
+        st = read (top .last) (a .val) (e .val)
 
         reads-plain : plainForm keyLimit .read (drop 0 s) ≡ item st (drop (u .end) s)
-        unfolding plainForm entriesForm activeForm via bind
-        reads-plain = rw (h .stands .reads, e .part .stands .reads, a .part .stands .reads)
+        unfolding plainForm partForm entriesForm activeForm via bind
+        reads-plain = rw (h .head .reads, h .counts .reads, e .part .stands .reads, a .part .stands .reads)
 
         counts : (length (e .val) ≡ top .entries) × (length (a .val) ≡ top .active)
         unfolding run
         counts = (
-          run (entryForm keyLimit) anyOrder (top .entries) .read-is (drop 20 s) (e .val) (drop (t .end) s) (e .part .stands .reads) .1 .1,
+          run (entryForm keyLimit) anyOrder (top .entries) .read-is (drop entriesAt s) (e .val) (drop (t .end) s) (e .part .stands .reads) .1 .1,
           run (txnForm keyLimit) belowId (top .active) .read-is (drop (t .end) s) (a .val) (drop (u .end) s) (a .part .stands .reads) .1 .1,
         )
 
-        middle-is : t .end ≡ 20 + length (run (entryForm keyLimit) anyOrder (top .entries) .write (e .val))
+        middle-is : t .end ≡ entriesAt + length (run (entryForm keyLimit) anyOrder (top .entries) .write (e .val))
         middle-is = stands-length (run (entryForm keyLimit) anyOrder (top .entries)) (e .part .stands) (h .inside) (e .part .inside)
 
         marks-are : t .marks + u .marks ≡ marks st

@@ -18,6 +18,7 @@ use Rattle.codec.specs.Codec.{item}
 use Rattle.codec.specs.Formats.{number, bind, only, via}
 use Rattle.codec.specs.Places.{Stands}
 use Rattle.codec.proofs.NumberLaws.{stands-number}
+use Rattle.layout.specs.Offsets.{countSize, lengthSize, tagSize, boundKeyAt}
 use Rattle.layout.specs.Keys.{boundForm, pairForm, rangeForm, rangesForm, anyOrder}
 use Rattle.room.specs.declared.tally.Tally.{Tally}
 use Rattle.room.specs.declared.tally.Walked.{Walked}
@@ -30,20 +31,20 @@ use Rattle.room.proofs.SetLaws.{number-short, key-size, key-labelled, l
 -- ---- bounds
 
 module _ (s : List ℕ) (at : ℕ) where
-  pub bound-short : length s - at < 1 → Missing (boundForm keyLimit) s at
+  pub bound-short : length s - at < tagSize → Missing (boundForm keyLimit) s at
   unfolding boundForm via bind only
-  bound-short h = record { reads = rw (number-short 1 s at h) }
+  bound-short h = record { reads = rw (number-short tagSize s at h) }
 
-  tag-stands : (tag : ℕ) → at + 1 ≤ length s → ((i : ℕ) → getD s i 0 < 256) → getD s at 0 ≡ tag → Stands (number 1) s at tag (at + 1)
-  tag-stands tag h small e = stands-number 1 s at tag h small (sym e)
+  tag-stands : (tag : ℕ) → at + tagSize ≤ length s → ((i : ℕ) → getD s i 0 < 256) → getD s at 0 ≡ tag → Stands (number tagSize) s at tag (at + tagSize)
+  tag-stands tag h small e = stands-number tagSize s at tag h small (sym e)
 
-  pub tag-unknown : (tag : ℕ) → at + 1 ≤ length s → ((i : ℕ) → getD s i 0 < 256) → getD s at 0 ≡ tag → (tag ≡ 0x10 → ⊥) → (tag ≡ 0x11 → ⊥) → (tag ≡ 0x12 → ⊥) → Missing (boundForm keyLimit) s at
+  pub tag-unknown : (tag : ℕ) → at + tagSize ≤ length s → ((i : ℕ) → getD s i 0 < 256) → getD s at 0 ≡ tag → (tag ≡ 0x10 → ⊥) → (tag ≡ 0x11 → ⊥) → (tag ≡ 0x12 → ⊥) → Missing (boundForm keyLimit) s at
   unfolding boundForm via bind only
   tag-unknown tag h small e a b c = record { reads = rw (tag-stands tag h small e .reads, ne-eqb tag 0x10 a, ne-eqb tag 0x11 b, ne-eqb tag 0x12 c) }
 
   -- the bound of a kind whose key was walked
-  module _ (h : at + 1 ≤ length s) (small : (i : ℕ) → getD s i 0 < 256) where
-    pub unbounded-ends : getD s at 0 ≡ 0x10 → (w : Walked) → Walks (aKey 0) s (at + 1) w → BoundIs s at (asBound Unbounded w)
+  module _ (h : at + tagSize ≤ length s) (small : (i : ℕ) → getD s i 0 < 256) where
+    pub unbounded-ends : getD s at 0 ≡ 0x10 → (w : Walked) → Walks (aKey 0) s (at + tagSize) w → BoundIs s at (asBound Unbounded w)
     unfolding boundForm via bind only
     unbounded-ends e (Ends t) g =
         let z = key-size (g .part) in
@@ -54,19 +55,19 @@ module _ (s : List ℕ) (at : ℕ) where
         }
     unbounded-ends e Cut m = record { reads = rw (tag-stands 0x10 h small e .reads, m .reads) }
 
-    module _ {t : Tally} (g : Got (aKey keyLimit) s (at + 1) t) where
-      key-is : g .val ≡ between s (at + 3) (t .end)
+    module _ {t : Tally} (g : Got (aKey keyLimit) s (at + tagSize) t) where
+      key-is : g .val ≡ between s (at + boundKeyAt) (t .end)
       key-is =
-          let j : at + 1 + 2 ≡ at + 3 = omega arith in
-          key-labelled keyLimit s (at + 1) (t .end) (g .val) (g .part) .1 ∙ ap (λ (p : ℕ). between s p (t .end)) j
+          let j : at + tagSize + lengthSize ≡ at + boundKeyAt = omega arith in
+          key-labelled keyLimit s (at + tagSize) (t .end) (g .val) (g .part) .1 ∙ ap (λ (p : ℕ). between s p (t .end)) j
 
-      key-ends : (at + 3 ≤ t .end) × (length (between s (at + 3) (t .end)) ≡ t .end - (at + 3))
+      key-ends : (at + boundKeyAt ≤ t .end) × (length (between s (at + boundKeyAt) (t .end)) ≡ t .end - (at + boundKeyAt))
       key-ends =
-          let f : at + 3 ≤ t .end = omega (arith, key-labelled keyLimit s (at + 1) (t .end) (g .val) (g .part) .0) in
+          let f : at + boundKeyAt ≤ t .end = omega (arith, key-labelled keyLimit s (at + tagSize) (t .end) (g .val) (g .part) .0) in
           let i : t .end ≤ length s = g .part .inside in
-          (f, length-take-le (t .end - (at + 3)) (drop (at + 3) s) (rw (length-drop (at + 3) s) (omega arith)))
+          (f, length-take-le (t .end - (at + boundKeyAt)) (drop (at + boundKeyAt) s) (rw (length-drop (at + boundKeyAt) s) (omega arith)))
 
-    pub included-ends : getD s at 0 ≡ 0x11 → (w : Walked) → Walks (aKey keyLimit) s (at + 1) w → BoundIs s at (asBound Included w)
+    pub included-ends : getD s at 0 ≡ 0x11 → (w : Walked) → Walks (aKey keyLimit) s (at + tagSize) w → BoundIs s at (asBound Included w)
     unfolding boundForm via bind only
     included-ends e (Ends t) g = record {
       part = record {
@@ -79,7 +80,7 @@ module _ (s : List ℕ) (at : ℕ) where
     }
     included-ends e Cut m = record { reads = rw (tag-stands 0x11 h small e .reads, m .reads) }
 
-    pub excluded-ends : getD s at 0 ≡ 0x12 → (w : Walked) → Walks (aKey keyLimit) s (at + 1) w → BoundIs s at (asBound Excluded w)
+    pub excluded-ends : getD s at 0 ≡ 0x12 → (w : Walked) → Walks (aKey keyLimit) s (at + tagSize) w → BoundIs s at (asBound Excluded w)
     unfolding boundForm via bind only
     excluded-ends e (Ends t) g = record {
       part = record {
@@ -105,16 +106,16 @@ module _ {s : List ℕ} {at m : ℕ} {k : Kind} (a : BoundEnds s at k m) where
 
   module _ {e : ℕ} {l : Kind} (b : BoundEnds s m l e) where
     abbrev pub found : Range
-    found = range (bound k (between s (at + 3) m)) (bound l (between s (m + 3) e))
+    found = range (bound k (between s (at + boundKeyAt) m)) (bound l (between s (m + boundKeyAt) e))
 
-    pub judged : (x : ComparableRange) (t : Bool) → (x .start ≡ k) × (x .end ≡ l) → notEmpty (rangeOf x (between s (at + 3) m) (between s (m + 3) e)) ≡ t → notEmpty found ≡ t
-    judged x t n is = sym (ap₂ (λ (p q : Kind). notEmptyPair (bound p (between s (at + 3) m)) (bound q (between s (m + 3) e))) (n .0) (n .1)) ∙ is
+    pub judged : (x : ComparableRange) (t : Bool) → (x .start ≡ k) × (x .end ≡ l) → notEmpty (rangeOf x (between s (at + boundKeyAt) m) (between s (m + boundKeyAt) e)) ≡ t → notEmpty found ≡ t
+    judged x t n is = sym (ap₂ (λ (p q : Kind). notEmptyPair (bound p (between s (at + boundKeyAt) m)) (bound q (between s (m + boundKeyAt) e))) (n .0) (n .1)) ∙ is
 
     pub range-empty : notEmpty found ≡ false → Missing (rangeForm keyLimit) s at
     unfolding rangeForm pairForm only via bind
     range-empty h = record { reads = rw (a .part .stands .reads, b .part .stands .reads, h) }
 
-    pub range-got : notEmpty found ≡ true → Got aRange s at (record { end = e; marks = 1; bytes = m - (at + 3) + (e - (m + 3)); high = 0 })
+    pub range-got : notEmpty found ≡ true → Got aRange s at (record { end = e; marks = 1; bytes = m - (at + boundKeyAt) + (e - (m + boundKeyAt)); high = 0 })
     unfolding rangeForm pairForm only via bind
     range-got h = record {
       val = found;
@@ -126,10 +127,10 @@ module _ {s : List ℕ} {at m : ℕ} {k : Kind} (a : BoundEnds s at k m) where
     }
 
 module _ (s : List ℕ) (at : ℕ) where
-  pub ranges-short : length s - at < 2 → Missing (rangesForm keyLimit) s at
+  pub ranges-short : length s - at < countSize → Missing (rangesForm keyLimit) s at
   unfolding rangesForm
   ranges-short h = list-short (rangeForm keyLimit) anyOrder s at h
 
-  pub ranges-ends : (n : ℕ) → Stands (number 2) s at n (at + 2) → (w : Walked) → Walks (runOf aRange anyOrder n) s (at + 2) w → Walks someRanges s at w
+  pub ranges-ends : (n : ℕ) → Stands (number countSize) s at n (at + countSize) → (w : Walked) → Walks (runOf aRange anyOrder n) s (at + countSize) w → Walks someRanges s at w
   unfolding rangesForm
   ranges-ends n r w g = list-ends (rangeForm keyLimit) anyOrder s at rangeBytes n r w g

@@ -7,6 +7,7 @@ use Rattle.keys.specs.Limit.{keyLimit}
 use Rattle.kinds.specs.Bounds.{bound}
 use Rattle.kinds.specs.declared.kind.Kind.{Kind}
 use Rattle.ranges.specs.Made.{keyOf}
+use Rattle.layout.specs.Offsets.{boundKeyAt}
 use Rattle.layout.specs.Keys.{boundForm}
 use Rattle.layout.specs.Places.{Part}
 use Rattle.room.specs.declared.tally.Walked.{Walked}
@@ -17,9 +18,9 @@ use Rattle.room.specs.declared.range.BoundAt.the-variants as b
 
 -- a bound stands from at up to e, its key behind its tag and its length
 pub record BoundEnds (s : List ℕ) (at : ℕ) (kind : Kind) (e : ℕ) : Type 0 where
-  pub part : Part (boundForm keyLimit) s at (bound kind (between s (at + 3) e)) e
-  pub far : at + 3 ≤ e
-  pub size : length (keyOf (bound kind (between s (at + 3) e))) ≡ e - (at + 3)
+  pub part : Part (boundForm keyLimit) s at (bound kind (between s (at + boundKeyAt) e)) e
+  pub far : at + boundKeyAt ≤ e
+  pub size : length (keyOf (bound kind (between s (at + boundKeyAt) e))) ≡ e - (at + boundKeyAt)
 
 abbrev pub asBound : Kind → Walked → BoundAt
 asBound kind (Ends t) = b.Found kind (t .end)

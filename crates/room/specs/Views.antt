@@ -10,8 +10,9 @@ use Rattle.machine.specs.State.{State, base, marks, keyBytes}
 use Rattle.machine.specs.Calls.{short, broken}
 use Rattle.codec.specs.Codec.{writeRun}
 use Rattle.codec.specs.Places.{Stands}
+use Rattle.layout.specs.Offsets.{idSize, partAt, entriesAt}
 use Rattle.layout.specs.Keys.{below}
-use Rattle.layout.specs.Records.{Head, headForm, entryForm}
+use Rattle.layout.specs.Records.{headForm, countsForm, entryForm}
 use Rattle.layout.specs.States.{stateForm, roomSize}
 use Rattle.layout.specs.Rooms.{load}
 use Rattle.room.specs.declared.tally.Tally.{Tally}
@@ -30,7 +31,7 @@ pub record Seen (s : List ℕ) (v : View) : Type 0 where
   pub last : v .last ≡ state .last
   pub entries : v .entries ≡ length (state .entries)
   pub active : v .active ≡ length (state .active)
-  pub middle : v .middle ≡ 20 + length (writeRun (entryForm (base .key)) (state .entries))
+  pub middle : v .middle ≡ entriesAt + length (writeRun (entryForm (base .key)) (state .entries))
   pub marks : v .marks ≡ marks state
   pub bytes : v .bytes ≡ keyBytes state
 
@@ -42,12 +43,11 @@ abbrev pub Opening : List ℕ → Opened → Type 0
 Opening s (Opened.Of v) = Seen s v
 Opening s Opened.Bad = NoState s
 
-abbrev pub asHead : Top → Head
-asHead t = record { last = t .last; entries = t .entries; active = t .active }
-
+-- the room's head and the counts of its part
 pub record HeadIs (s : List ℕ) (t : Top) : Type 0 where
-  pub stands : Stands headForm s 0 (asHead t) 20
-  pub inside : 20 ≤ length s
+  pub head : Stands headForm s 0 (t .last) partAt
+  pub counts : Stands countsForm s partAt (record { entries = t .entries; active = t .active }) entriesAt
+  pub inside : entriesAt ≤ length s
 
 abbrev pub HeadAt : List ℕ → Headed → Type 0
 HeadAt s (Headed.Is t) = HeadIs s t
@@ -55,7 +55,7 @@ HeadAt s Headed.No = Missing headForm s 0
 
 -- the id of the transaction at e comes after that of the one at p; none comes before if p is e
 abbrev pub idFollows : List ℕ → ℕ → ℕ → Bool
-idFollows s p e = eqb p e || below (take 16 (drop p s)) (take 16 (drop e s))
+idFollows s p e = eqb p e || below (take idSize (drop p s)) (take idSize (drop e s))
 
 -- what a head and the totals say of `sound`
 abbrev pub soundly : Top → Tally → Bool

@@ -6,6 +6,7 @@ use mathlib.Core.List.{List}
 use lib.Dec.{eqb}
 use lib.ListN.{take, drop}
 use Rattle.codec.specs.Codec.{Codec, cut}
+use Rattle.layout.specs.Offsets.{lengthSize}
 use Rattle.layout.specs.Keys.{below}
 use Rattle.layout.specs.Places.{Part}
 use Rattle.room.specs.declared.tally.Tally.{Tally}
@@ -36,7 +37,7 @@ between s p e = take (e - p) (drop p s)
 
 -- the key of the record from e up to next comes after that of the one from p up to e; none comes before if p is e
 abbrev pub keyFollows : List ℕ → ℕ → ℕ → ℕ → Bool
-keyFollows s p e next = eqb p e || below (between s (p + 2) e) (between s (e + 2) next)
+keyFollows s p e next = eqb p e || below (between s (p + lengthSize) e) (between s (e + lengthSize) next)
 
 -- p is e, or a record of k bytes at least stands from p up to e
 pub record Apart (k p e : ℕ) : Type 0 where

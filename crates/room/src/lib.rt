@@ -4,8 +4,11 @@ ghost use Prim.Native.Nat.{_+_, _≤_};
 ghost use lib.ListN.{length};
 ghost use Rattle.room.specs.Walks.{Walks, Apart};
 ghost use Rattle.room.specs.Counts.{anEntry, aTxn, runOf};
+ghost use Rattle.machine.specs.State.{base};
+ghost use Rattle.layout.specs.Offsets.{idSize, entriesAt};
 ghost use Rattle.layout.specs.Keys.{anyOrder};
 ghost use Rattle.layout.specs.Records.{belowId};
+ghost use Rattle.layout.specs.States.{roomSize};
 ghost use Rattle.room.specs.Views.{HeadAt, idFollows, soundly, Opening};
 use crate::ceilings::ACTIVE_LIMIT;
 use crate::ceilings::BYTE_LIMIT;
@@ -15,8 +18,8 @@ use crate::ceilings::SIZE;
 use crate::tally::Tally;
 use crate::tally::Walked;
 use layout::ACTIVE_COUNT;
+use layout::ENTRIES;
 use layout::ENTRY_COUNT;
-use layout::HEAD;
 use layout::ID;
 use layout::LAST;
 use layout::STAMP;
@@ -27,7 +30,7 @@ pub mod record;
 pub mod set;
 pub mod tally;
 
-// The head of a room: the last number, how many entries, how many active.
+// What stands before the entries: the last number, how many entries, how many active.
 struct Top {
     last: u64,
     entries: usize,
@@ -57,11 +60,9 @@ pub enum Opened {
 }
 
 fn head(room: &[u8]) -> Headed
+    requires { ⌜ entriesAt ≤ length (now room) ⌝ }
     ensures { λ r. ⌜ HeadAt (now (room .entry)) r ⌝ }
 {
-    if room.len() < HEAD {
-        return Headed::No;
-    }
     let stamp = codec::numbers::read_eight(room, 0);
     if stamp != STAMP {
         return Headed::No;
@@ -97,7 +98,7 @@ fn entries_end(room: &[u8], at: usize, n: usize) -> Walked
 
 // Whether the id of the transaction at e comes after that of the one before it, at p; none is before it if p is e.
 fn id_follows(room: &[u8], p: usize, e: usize) -> bool
-    requires { ⌜ Apart 16 p e × (e + 16 ≤ length (now room)) ⌝ }
+    requires { ⌜ Apart idSize p e × (e + idSize ≤ length (now room)) ⌝ }
     ensures { λ r. ⌜ r ≡ idFollows (now (room .entry)) p e ⌝ }
 {
     if p == e {
@@ -168,14 +169,12 @@ pub fn open(room: &[u8]) -> Opened
 }
 
 fn open_record(room: &[u8]) -> Opened
+    requires { ⌜ roomSize base ≤ length (now room) ⌝ }
     ensures { λ r. ⌜ Opening (now (room .entry)) r ⌝ }
 {
-    if room.len() < SIZE {
-        return Opened::Bad;
-    }
     match head(room) {
         Headed::No => Opened::Bad,
-        Headed::Is(top) => match entries_end(room, HEAD, top.entries) {
+        Headed::Is(top) => match entries_end(room, ENTRIES, top.entries) {
             Walked::Cut => Opened::Bad,
             Walked::Ends(t) => match active_end(room, t.end, top.active) {
                 Walked::Cut => Opened::Bad,

@@ -13,6 +13,9 @@ use fields::INCLUDED;
 use fields::UNBOUNDED;
 use keys::KEY_LIMIT;
 use kinds::kind::Kind;
+use layout::BOUND;
+use layout::COUNT;
+use layout::TAG;
 
 // The bound at a place: its kind, and where it ends.
 enum BoundAt {
@@ -34,18 +37,24 @@ fn bound_end(room: &[u8], at: usize) -> BoundAt
     requires { ⌜ at ≤ length (now room) ⌝ }
     ensures { λ r. ⌜ BoundIs (now (room .entry)) at r ⌝ }
 {
-    if room.len() - at < 1 {
+    if room.len() - at < TAG {
         return BoundAt::NoBound;
     }
     let tag = room[at];
     if tag == UNBOUNDED {
-        return bound_of(Kind::Unbounded, crate::set::key_end(room, at + 1, 0));
+        return bound_of(Kind::Unbounded, crate::set::key_end(room, at + TAG, 0));
     }
     if tag == INCLUDED {
-        return bound_of(Kind::Included, crate::set::key_end(room, at + 1, KEY_LIMIT));
+        return bound_of(
+            Kind::Included,
+            crate::set::key_end(room, at + TAG, KEY_LIMIT),
+        );
     }
     if tag == EXCLUDED {
-        return bound_of(Kind::Excluded, crate::set::key_end(room, at + 1, KEY_LIMIT));
+        return bound_of(
+            Kind::Excluded,
+            crate::set::key_end(room, at + TAG, KEY_LIMIT),
+        );
     }
     BoundAt::NoBound
 }
@@ -60,8 +69,8 @@ fn range_end(room: &[u8], at: usize) -> Walked
         BoundAt::Found(start, m) => match bound_end(room, m) {
             BoundAt::NoBound => Walked::Cut,
             BoundAt::Found(end, e) => {
-                let a = at + 3;
-                let b = m + 3;
+                let a = at + BOUND;
+                let b = m + BOUND;
                 let range = ComparableRange::new(start, end);
                 if range.non_empty(&room[a..m], &room[b..e]) {
                     let bytes = m - a + (e - b);
@@ -102,9 +111,9 @@ pub fn ranges_end(room: &[u8], at: usize) -> Walked
     requires { ⌜ at ≤ length (now room) ⌝ }
     ensures { λ r. ⌜ Walks someRanges (now (room .entry)) at r ⌝ }
 {
-    if room.len() - at < 2 {
+    if room.len() - at < COUNT {
         return Walked::Cut;
     }
     let n = codec::numbers::read_two(room, at);
-    run_end(room, at + 2, n)
+    run_end(room, at + COUNT, n)
 }

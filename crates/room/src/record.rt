@@ -4,7 +4,8 @@ ghost use Rattle.room.specs.Counts.{anEntry, aTxn};
 ghost use Rattle.room.specs.Walks.{Walks};
 use crate::tally::Tally;
 use crate::tally::Walked;
-use layout::ID;
+use layout::KEYS;
+use layout::START;
 use layout::WRITES;
 
 // Where the entry at a place ends.
@@ -12,11 +13,11 @@ pub fn entry_end(room: &[u8], at: usize) -> Walked
     requires { ⌜ at ≤ length (now room) ⌝ }
     ensures { λ r. ⌜ Walks anEntry (now (room .entry)) at r ⌝ }
 {
-    if room.len() - at < 8 {
+    if room.len() - at < KEYS {
         return Walked::Cut;
     }
     let seq = codec::numbers::read_eight(room, at);
-    match crate::set::set_end(room, at + 8) {
+    match crate::set::set_end(room, at + KEYS) {
         Walked::Ends(t) => Walked::Ends(Tally {
             end: t.end,
             marks: t.marks,
@@ -35,7 +36,7 @@ pub fn txn_end(room: &[u8], at: usize) -> Walked
     if room.len() - at < WRITES {
         return Walked::Cut;
     }
-    let start = codec::numbers::read_eight(room, at + ID);
+    let start = codec::numbers::read_eight(room, at + START);
     match crate::set::set_end(room, at + WRITES) {
         Walked::Cut => Walked::Cut,
         Walked::Ends(w) => match crate::set::set_end(room, w.end) {

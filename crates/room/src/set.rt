@@ -1,6 +1,7 @@
 ghost use mathlib.Core.Path.{_≡_};
 ghost use Prim.Native.Nat.{_+_, _≤_};
 ghost use lib.ListN.{length};
+ghost use Rattle.layout.specs.Offsets.{lengthSize};
 ghost use Rattle.layout.specs.Keys.{below};
 ghost use Rattle.keys.specs.Limit.{keyLimit};
 ghost use Rattle.room.specs.Counts.{aKey, aSet, runOf};
@@ -8,23 +9,25 @@ ghost use Rattle.room.specs.Walks.{Walks, Apart, keyFollows};
 use crate::tally::Tally;
 use crate::tally::Walked;
 use keys::KEY_LIMIT;
+use layout::COUNT;
+use layout::LENGTH;
 
 // Where the key at a place ends, which has at most `limit` bytes.
 pub fn key_end(room: &[u8], at: usize, limit: usize) -> Walked
     requires { ⌜ at ≤ length (now room) ⌝ }
     ensures { λ r. ⌜ Walks (aKey limit) (now (room .entry)) at r ⌝ }
 {
-    if room.len() - at < 2 {
+    if room.len() - at < LENGTH {
         return Walked::Cut;
     }
     let n = codec::numbers::read_two(room, at);
     if limit < n {
         return Walked::Cut;
     }
-    if room.len() - at - 2 < n {
+    if room.len() - at - LENGTH < n {
         return Walked::Cut;
     }
-    let end = at + 2 + n;
+    let end = at + LENGTH + n;
     Walked::Ends(Tally {
         end,
         marks: 1,
@@ -35,14 +38,14 @@ pub fn key_end(room: &[u8], at: usize, limit: usize) -> Walked
 
 // Whether the key of the record at e comes after that of the one before it, from p up to e; none is before it if p is e.
 fn key_follows(room: &[u8], p: usize, e: usize, next: usize) -> bool
-    requires { ⌜ Apart 2 p e × ((e + 2 ≤ next) × (next ≤ length (now room))) ⌝ }
+    requires { ⌜ Apart lengthSize p e × ((e + lengthSize ≤ next) × (next ≤ length (now room))) ⌝ }
     ensures { λ r. ⌜ r ≡ keyFollows (now (room .entry)) p e next ⌝ }
 {
     if p == e {
         return true;
     }
-    let a = p + 2;
-    let b = e + 2;
+    let a = p + LENGTH;
+    let b = e + LENGTH;
     keys::compare(&room[a..e], &room[b..next]) < 0
 }
 
@@ -75,9 +78,9 @@ pub fn set_end(room: &[u8], at: usize) -> Walked
     requires { ⌜ at ≤ length (now room) ⌝ }
     ensures { λ r. ⌜ Walks aSet (now (room .entry)) at r ⌝ }
 {
-    if room.len() - at < 2 {
+    if room.len() - at < COUNT {
         return Walked::Cut;
     }
     let n = codec::numbers::read_two(room, at);
-    keys_end(room, at + 2, n)
+    keys_end(room, at + COUNT, n)
 }

@@ -1,6 +1,7 @@
 ghost use mathlib.Core.Path.{_≡_};
-ghost use Prim.Native.Nat.{_+_, _≤_, max};
+ghost use Prim.Native.Nat.{_+_, _≤_};
 ghost use Rattle.room.specs.Counts.{emptyTally, plus};
+use codec::numbers::larger;
 
 // What a walk counts up to a place: marks, key bytes, and the highest sequence or start.
 pub struct Tally {
@@ -14,12 +15,6 @@ pub struct Tally {
 pub enum Walked {
     Ends(Tally),
     Cut,
-}
-
-pub fn larger(a: u64, b: u64) -> u64
-    ensures { λ r. ⌜ r ≡ max a b ⌝ }
-{
-    if a < b { b } else { a }
 }
 
 impl Tally {

@@ -9,7 +9,7 @@ use edits::oracle::last_committed_seq;
 use edits::put_txn;
 use edits::write_fresh;
 use layout::ACTIVE_COUNT;
-use layout::HEAD;
+use layout::ENTRIES;
 use layout::ID;
 use places::finds::Place;
 use places::finds::find_txn;
@@ -75,7 +75,7 @@ pub fn check(room: &[u8], v: View, id: &[u8]) -> Answer
     match find_txn(room, middle, active, id) {
         Place::Before(_) => Answer::ABSENT,
         Place::Here { at, end: _ } => {
-            if conflicts(room, HEAD, entries, at) {
+            if conflicts(room, ENTRIES, entries, at) {
                 return Answer {
                     status: 0,
                     value: 1,

@@ -31,7 +31,7 @@ use Rattle.layout.proofs.SizeLaws.{set-length}
 use Rattle.layout.proofs.LoadLaws.{refuse, look-absent, change}
 use Rattle.places.specs.declared.finds.Place.{Place}
 use Rattle.places.specs.Finds.{Found}
-use Rattle.edits.proofs.LaidLaws.{entriesOf, activeOf}
+use Rattle.edits.specs.Laid.{entriesOf, activeOf}
 use Rattle.answers.proofs.FormLaws.{Listed, no-list, long-list, good-list}
 use Rattle.answers.proofs.TrackLaws.{track-absent, track-full, track-done, keys-malformed, keys-long, keys-track}
 use Rattle.answers.proofs.InsideLaws.{laid-within}

@@ -26,7 +26,7 @@ use Rattle.layout.proofs.SizeLaws.{range-length}
 use Rattle.layout.proofs.LoadLaws.{refuse, look-absent, change}
 use Rattle.places.specs.declared.finds.Place.{Place}
 use Rattle.places.specs.Finds.{Found}
-use Rattle.edits.proofs.LaidLaws.{entriesOf, activeOf}
+use Rattle.edits.specs.Laid.{entriesOf, activeOf}
 use Rattle.answers.proofs.TrackLaws.{track-absent, track-full, track-done, range-malformed, range-long, range-empty, range-track}
 use Rattle.answers.proofs.InsideLaws.{txn-bytes, beforeRanges, laid-range}
 use Rattle.room.specs.declared.View.{View}

@@ -1,28 +1,26 @@
 use mathlib.Core.Path.{sym, _∙_}
 use borrow.Author.Needs.{needs}
 use denote.Ref.{now}
+use Rattle.layout.specs.Offsets.{entriesAt}
 use Rattle.layout.specs.Records.{belowId}
 use Rattle.layout.specs.Keys.{anyOrder}
 use Rattle.room.specs.Walks.{Got}
 use Rattle.room.specs.Counts.{anEntry, aTxn, runOf}
 use Rattle.room.proofs.GoingLaws.{can-join}
 use Rattle.room.specs.Views.{HeadIs}
-use Rattle.room.proofs.OpenLaws.{too-small, no-head, no-entries, no-active, not-sound, seen}
+use Rattle.room.proofs.OpenLaws.{no-head, no-entries, no-active, not-sound, seen}
 use Rattle.room.proofs.open_record.Statement.{statement}
 use Rattle.room.proofs.open_record.Tie as tie
 
 -- the head, the entries and the active ones that were read
-headed : (c : tie.After-top) → HeadIs (now (c .before .before .before .before .before .args .room)) (c .top .given .0 .0)
+headed : (c : tie.After-top) → HeadIs (now (c .before .before .before .before .args .room)) (c .top .given .0 .0)
 headed c = rw (c .top .given .1) at (c .before .before .head .ensures)
 
-entered : (c : tie.After-t) → Got (runOf anEntry anyOrder (c .before .before .before .before .top .given .0 .0 .entries)) (now (c .before .before .before .before .before .before .before .before .before .args .room)) 20 (c .t .given .0 .0)
+entered : (c : tie.After-t) → Got (runOf anEntry anyOrder (c .before .before .before .before .top .given .0 .0 .entries)) (now (c .before .before .before .before .before .before .before .before .args .room)) entriesAt (c .t .given .0 .0)
 entered c = rw (c .t .given .1) at (c .before .before .entries-end .ensures)
 
-begun : (c : tie.After-u) → Got (runOf aTxn belowId (c .before .before .before .before .before .before .before .before .top .given .0 .0 .active)) (now (c .before .before .before .before .before .before .before .before .before .before .before .before .before .args .room)) (c .before .before .before .before .t .given .0 .0 .end) (c .u .given .0 .0)
+begun : (c : tie.After-u) → Got (runOf aTxn belowId (c .before .before .before .before .before .before .before .before .top .given .0 .0 .active)) (now (c .before .before .before .before .before .before .before .before .before .before .before .before .args .room)) (c .before .before .before .before .t .given .0 .0 .end) (c .u .given .0 .0)
 begun c = rw (c .u .given .1) at (c .before .before .active-end .ensures)
-
-returns : tie.Need-returns
-returns c = too-small (c .if1 .taken)
 
 head-requires : tie.Need-head-requires
 head-requires c κs = search needs
@@ -57,26 +55,25 @@ joined-requires c κs = can-join (entered (c .before .before .before .before .be
 sound-requires : tie.Need-sound-requires
 sound-requires c κs = search needs
 
+returns : tie.Need-returns
+returns c = seen (c .before .before .before .before .before .before .before .before .before .before .before .before .before .before .before .before .pre) (headed (c .before .before .before .before .before .before .before .before .before .before .before .before)) (entered (c .before .before .before .before .before .before .before .before)) (begun (c .before .before .before .before)) _ (c .before .before .joined .ensures) (sym (c .before .sound .ensures) ∙ c .if1 .taken)
+
 returns-2 : tie.Need-returns-2
-returns-2 c = seen (c .before .before .before .before .before .before .before .before .before .before .before .before .before .before .before .if1 .left) (headed (c .before .before .before .before .before .before .before .before .before .before .before .before)) (entered (c .before .before .before .before .before .before .before .before)) (begun (c .before .before .before .before)) _ (c .before .before .joined .ensures) (sym (c .before .sound .ensures) ∙ c .if2 .taken)
+returns-2 c = no-head (c .before .before .before .before .pre) (rw (c .enum-told .given .1) at (c .before .before .head .ensures))
 
 returns-3 : tie.Need-returns-3
-returns-3 c = no-head (c .before .before .before .if1 .left) (rw (c .enum-told .given .1) at (c .before .before .head .ensures))
+returns-3 c = no-entries (c .before .before .before .before .before .before .before .before .pre) (headed (c .before .before .before .before)) (rw (c .enum-told2 .given .1) at (c .before .before .entries-end .ensures))
 
 returns-4 : tie.Need-returns-4
-returns-4 c = no-entries (c .before .before .before .before .before .before .before .if1 .left) (headed (c .before .before .before .before)) (rw (c .enum-told2 .given .1) at (c .before .before .entries-end .ensures))
+returns-4 c = no-active (c .before .before .before .before .before .before .before .before .before .before .before .before .pre) (headed (c .before .before .before .before .before .before .before .before)) (entered (c .before .before .before .before)) (rw (c .enum-told3 .given .1) at (c .before .before .active-end .ensures))
 
 returns-5 : tie.Need-returns-5
-returns-5 c = no-active (c .before .before .before .before .before .before .before .before .before .before .before .if1 .left) (headed (c .before .before .before .before .before .before .before .before)) (entered (c .before .before .before .before)) (rw (c .enum-told3 .given .1) at (c .before .before .active-end .ensures))
-
-returns-6 : tie.Need-returns-6
-returns-6 c = not-sound (c .before .before .before .before .before .before .before .before .before .before .before .before .before .before .before .if1 .left) (headed (c .before .before .before .before .before .before .before .before .before .before .before .before)) (entered (c .before .before .before .before .before .before .before .before)) (begun (c .before .before .before .before)) _ (c .before .before .joined .ensures) (sym (c .before .sound .ensures) ∙ c .if2 .left)
+returns-5 c = not-sound (c .before .before .before .before .before .before .before .before .before .before .before .before .before .before .before .before .pre) (headed (c .before .before .before .before .before .before .before .before .before .before .before .before)) (entered (c .before .before .before .before .before .before .before .before)) (begun (c .before .before .before .before)) _ (c .before .before .joined .ensures) (sym (c .before .sound .ensures) ∙ c .if1 .left)
 
 pub open-record-spec : {M : Type 1} → statement M
 open-record-spec =
     tie.close
     (tie.spec
-    returns
     head-requires
     enum-told
     enum-known-top
@@ -88,8 +85,8 @@ open-record-spec =
     enum-known-u
     joined-requires
     sound-requires
+    returns
     returns-2
     returns-3
     returns-4
-    returns-5
-    returns-6)
+    returns-5)

@@ -26,14 +26,14 @@ enum-told-3 c = search needs
 larger-requires : tie.Need-larger-requires
 larger-requires c κs = search needs
 
-write-fresh-requires : tie.Need-write-fresh-requires
-write-fresh-requires c κs = search needs
+empty-recent-committed-txns-requires : tie.Need-empty-recent-committed-txns-requires
+empty-recent-committed-txns-requires c κs = search needs
 
 same-length : tie.Need-same-length
 same-length c = search needs
 
 returns-3 : tie.Need-returns-3
-returns-3 c = batch-nobody (c .before .before .before .before .before .before .before .before .before .before .before .before .pre) (sym (c .before .before .before .before .before .before .before .enum-told3 .given .1) ∙ c .before .before .before .before .before .before .before .before .before .check-keys .ensures) (c .before .before .before .before .before .if1 .taken) (c .before .before .before .before .larger .ensures) (c .before .before .write-fresh .ensures) (omega (arith, c .before .before .before .before .before .before .before .before .before .before .before .before .fits .seq))
+returns-3 c = batch-nobody (c .before .before .before .before .before .before .before .before .before .before .before .before .pre) (sym (c .before .before .before .before .before .before .before .enum-told3 .given .1) ∙ c .before .before .before .before .before .before .before .before .before .check-keys .ensures) (c .before .before .before .before .before .if1 .taken) (c .before .before .before .before .larger .ensures) (c .before .before .empty-recent-committed-txns .ensures) (omega (arith, c .before .before .before .before .before .before .before .before .before .before .before .before .fits .seq))
 
 returns-4 : tie.Need-returns-4
 returns-4 c = batch-many (c .before .before .before .before .before .before .before .before .before .pre) (sym (c .before .before .before .before .enum-told3 .given .1) ∙ c .before .before .before .before .before .before .check-keys .ensures) (omega (arith, c .before .before .if1 .left)) (omega (arith, c .if2 .taken))
@@ -58,7 +58,7 @@ batch-entry-spec =
     returns-2
     enum-told-3
     larger-requires
-    write-fresh-requires
+    empty-recent-committed-txns-requires
     same-length
     returns-3
     returns-4

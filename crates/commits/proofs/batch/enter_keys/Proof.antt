@@ -1,6 +1,7 @@
 use Rattle.answers.proofs.FoundLaws.{within}
 use Rattle.tracks.proofs.DraftLaws.{zeros, zeros-long}
 use Rattle.commits.proofs.BatchLaws.{begun, set-inside, batch-room, room-for-last, batch-entered, batch-over}
+use Rattle.machine.specs.State.{base}
 use Rattle.tracks.specs.Drafts.{DraftedIs}
 use Rattle.tracks.specs.declared.drafts.Drafted.{Drafted}
 use Prim.Native.Nat.{_-_}
@@ -11,7 +12,7 @@ use Rattle.commits.proofs.batch.enter_keys.Statement.{statement}
 use Rattle.commits.proofs.batch.enter_keys.Tie as tie
 
 -- the set that was drafted
-drafted : (c : tie.After-end) → DraftedIs zeros 0 0 (now (c .before .before .before .before .before .before .before .before .before .args .list)) (1024 - c .before .before .before .before .before .before .before .before .before .args .v .marks) (32768 - c .before .before .before .before .before .before .before .before .before .args .v .bytes) (c .before .before .before .draft-keys .last .0) (Drafted.Set (c .end .given .0 .0) (c .end .given .0 .1 .0))
+drafted : (c : tie.After-end) → DraftedIs zeros 0 0 (now (c .before .before .before .before .before .before .before .before .before .args .list)) (base .marks - c .before .before .before .before .before .before .before .before .before .args .v .marks) (base .bytes - c .before .before .before .before .before .before .before .before .before .args .v .bytes) (c .before .before .before .draft-keys .last .0) (Drafted.Set (c .end .given .0 .0) (c .end .given .0 .1 .0))
 drafted c = rw (c .end .given .1) at (c .before .before .before .draft-keys .ensures)
 
 sub-marks : tie.Need-sub-marks

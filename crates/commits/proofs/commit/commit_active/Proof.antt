@@ -25,14 +25,14 @@ enum-known-at c = search needs
 larger-requires : tie.Need-larger-requires
 larger-requires c κs = search needs
 
-write-fresh-requires : tie.Need-write-fresh-requires
-write-fresh-requires c κs = search needs
+empty-recent-committed-txns-requires : tie.Need-empty-recent-committed-txns-requires
+empty-recent-committed-txns-requires c κs = search needs
 
 same-length : tie.Need-same-length
 same-length c = search needs
 
 returns-2 : tie.Need-returns-2
-returns-2 c = commit-only (c .before .before .before .before .before .before .before .before .before .before .before .before .before .before .pre) (c .before .before .before .before .before .before .before .before .before .before .before .if1 .left) (found (c .before .before .before .before .before .before .before)) (c .before .before .before .before .before .if2 .taken) (c .before .before .before .before .larger .ensures) (c .before .before .write-fresh .ensures) (omega (arith, c .before .before .before .before .before .before .before .before .before .before .before .before .before .before .fits .seq))
+returns-2 c = commit-only (c .before .before .before .before .before .before .before .before .before .before .before .before .before .before .pre) (c .before .before .before .before .before .before .before .before .before .before .before .if1 .left) (found (c .before .before .before .before .before .before .before)) (c .before .before .before .before .before .if2 .taken) (c .before .before .before .before .larger .ensures) (c .before .before .empty-recent-committed-txns .ensures) (omega (arith, c .before .before .before .before .before .before .before .before .before .before .before .before .before .before .fits .seq))
 
 same-length-2 : tie.Need-same-length-2
 same-length-2 c = search needs
@@ -84,7 +84,7 @@ commit-active-spec =
     find-txn-requires
     enum-known-at
     larger-requires
-    write-fresh-requires
+    empty-recent-committed-txns-requires
     same-length
     returns-2
     same-length-2

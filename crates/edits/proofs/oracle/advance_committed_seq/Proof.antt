@@ -5,7 +5,7 @@ use Rattle.edits.proofs.oracle.advance_committed_seq.Tie as tie
 use Rattle.edits.proofs.oracle.advance_committed_seq.Reads as reads
 use Rattle.edits.proofs.oracle.advance_committed_seq.Lts as lts
 use Rattle.codec.proofs.numbers.write_eight.Reads as write-eight-reads
-use Rattle.room.proofs.tally.larger.Reads as larger-reads
+use Rattle.codec.proofs.numbers.larger.Reads as larger-reads
 use Rattle.edits.proofs.oracle.last_committed_seq.Reads as last-committed-seq-reads
 
 -- src/oracle.rt:33:23

@@ -1,10 +1,10 @@
 use Rattle.edits.proofs.PruneLaws.{Pruning, prune-start, here, room-for-seq, ahead, prune-drop, prune-keep, prune-end}
 use Prim.Native.Nat.{_-_}
 use native.Mathlib.Omega.{arith}
-use Rattle.edits.proofs.prune_entries.Statement.{statement}
-use Rattle.edits.proofs.prune_entries.Tie as tie
-use Rattle.edits.proofs.prune_entries.Reads as reads
-use Rattle.edits.proofs.prune_entries.Lts as lts
+use Rattle.edits.proofs.leaving.prune_entries.Statement.{statement}
+use Rattle.edits.proofs.leaving.prune_entries.Tie as tie
+use Rattle.edits.proofs.leaving.prune_entries.Reads as reads
+use Rattle.edits.proofs.leaving.prune_entries.Lts as lts
 use Rattle.codec.proofs.numbers.read_eight.Reads as read-eight-reads
 use Rattle.moves.proofs.shift.Reads as shift-reads
 use Rattle.places.proofs.skips.entry_past.Reads as entry-past-reads

@@ -1,23 +1,24 @@
-use Rattle.commits.proofs.RecycleLaws.{recycle-nobody, recycle-inside, recycle-some}
+-- With nobody active the list is emptied; otherwise the kept entries close up and their count is written.
+use Rattle.edits.proofs.RecycleLaws.{recycle-room, recycle-nobody, recycle-entries, recycle-active, recycle-inside, recycle-some}
 use native.Mathlib.Omega.{arith}
 use borrow.Author.Needs.{needs}
-use Rattle.commits.proofs.drop.recycle_recent_committed_txns.Statement.{statement}
-use Rattle.commits.proofs.drop.recycle_recent_committed_txns.Tie as tie
+use Rattle.edits.proofs.leaving.recycle_recent_committed_txns.Statement.{statement}
+use Rattle.edits.proofs.leaving.recycle_recent_committed_txns.Tie as tie
 
-write-fresh-requires : tie.Need-write-fresh-requires
-write-fresh-requires c κs = search needs
+empty-recent-committed-txns-requires : tie.Need-empty-recent-committed-txns-requires
+empty-recent-committed-txns-requires c κs = recycle-room (c .before .before .before .pre)
 
 same-length : tie.Need-same-length
 same-length c = search needs
 
 returns : tie.Need-returns
-returns c = recycle-nobody (c .before .before .before .before .before .before .pre) (c .before .before .before .before .if1 .taken) (c .before .before .write-fresh .ensures)
+returns c = recycle-nobody (c .before .before .before .before .before .before .pre) (c .before .before .before .before .if1 .taken) (c .before .before .empty-recent-committed-txns .ensures)
 
 least-start-requires : tie.Need-least-start-requires
-least-start-requires c κs = search needs
+least-start-requires c κs = recycle-active (c .before .before .before .pre)
 
 prune-entries-requires : tie.Need-prune-entries-requires
-prune-entries-requires c κs = search needs
+prune-entries-requires c κs = recycle-entries (c .before .before .before .before .before .pre)
 
 sub-remove : tie.Need-sub-remove
 sub-remove c = recycle-inside (c .before .before .before .before .before .before .before .before .before .pre) _ (c .before .before .before .prune-entries .ensures) .0
@@ -38,7 +39,7 @@ pub recycle-recent-committed-txns-spec : {M : Type 1} → statement M
 recycle-recent-committed-txns-spec =
     tie.close
     (tie.spec
-    write-fresh-requires
+    empty-recent-committed-txns-requires
     same-length
     returns
     least-start-requires

@@ -1,0 +1,80 @@
+// Leaving the list: the one place where entries are pruned and the list is emptied.
+ghost use Prim.Native.Nat.{_≤_};
+ghost use lib.ListN.{length};
+ghost use Rattle.machine.specs.State.{base};
+ghost use Rattle.layout.specs.Offsets.{entriesAt};
+ghost use Rattle.layout.specs.Records.{entryForm};
+ghost use Rattle.layout.specs.Places.{Rows};
+ghost use Rattle.edits.specs.Leaving.{Prunes, Prunable, Recycled, Emptied};
+use crate::remove;
+use crate::write_fresh;
+use codec::numbers::read_eight;
+use codec::numbers::write_two;
+use layout::ENTRIES;
+use layout::ENTRY_COUNT;
+use moves::shift;
+use places::finds::least_start;
+use places::skips::entry_past;
+
+// How many entries are kept, and where they end.
+struct Kept {
+    count: usize,
+    end: usize,
+}
+
+// Moves the entries whose sequence is at least `least` together, behind the heads.
+fn prune_entries(room: &mut [u8], n: usize, least: u64) -> Kept
+    requires { ⌜ Rows (entryForm (base .key)) (now room) entriesAt n ⌝ }
+    ensures { λ r. ⌜ Prunes (now (room .entry)) n least (now (room .exit)) r ⌝ }
+{
+    let mut end = ENTRIES;
+    let mut from = ENTRIES;
+    let mut count = 0;
+    let mut left = n;
+    while 0 < left {
+        let next = entry_past(room, from);
+        left -= 1;
+        if read_eight(room, from) < least {
+            from = next;
+            continue;
+        }
+        shift(room, from, end, next - from);
+        end += next - from;
+        count += 1;
+        from = next;
+    }
+    Kept { count, end }
+}
+
+// "if nobody is active now, the list is emptied"
+pub fn empty_recent_committed_txns(room: &mut [u8], last: u64)
+    requires { ⌜ entriesAt ≤ length (now room) ⌝ }
+    ensures { λ _. ⌜ Emptied (now (room .entry)) last (now (room .exit)) ⌝ }
+{
+    write_fresh(room, last);
+}
+
+// Prunes the entries that no active transaction can conflict with, and answers how many are kept.
+pub fn recycle_recent_committed_txns(
+    room: &mut [u8],
+    last: u64,
+    entries: usize,
+    active: usize,
+    middle: usize,
+    used: usize,
+) -> usize
+    requires { ⌜ Prunable (now room) last entries active middle used ⌝ }
+    ensures { λ r. ⌜ Recycled (now (room .entry)) last entries active middle used (now (room .exit)) r ⌝ }
+{
+    if active == 0 {
+        empty_recent_committed_txns(room, last);
+        return 0;
+    }
+    let least = least_start(room, middle, active, last);
+    let kept = prune_entries(room, entries, least);
+    let end = kept.end;
+    let count = kept.count;
+    remove(room, used, end, middle - end);
+    write_two(room, ENTRY_COUNT, count);
+    count
+}
