@@ -1,19 +1,19 @@
 -- What the machine answers to a commit, a batch and a drop, from plain facts on the state.
 use Prim.Native.Nat.{ℕ, suc, _+_, _≤_, _<_, max}
-use mathlib.Core.Path.{_≡_, refl, sym, ap, _∙_}
-use mathlib.Core.Bool.{Bool, true, false}
+use mathlib.Core.Path.{_≡_, refl, ap, _∙_}
+use mathlib.Core.Bool.{true, false}
 use mathlib.Core.List.{List, [], _∷_, _++_}
-use mathlib.Core.Option.{Option, none, some}
+use mathlib.Core.Option.{none, some}
 use mathlib.Core.Logic.{_⊎_, inl, inr}
 use native.Mathlib.Omega.{arith}
 use lib.ListN.{length, length-append}
 use Rattle.fields.specs.Fields.{keyList}
 use Rattle.fields.specs.Forms.{shortKeys}
 use Rattle.machine.specs.Lists.{keep, sum}
-use Rattle.machine.specs.State.{Bytes, Txn, Entry, State, Ceilings, withActive, withEntries, advanced, fits, Fits, Ascends, ids, MachineState, marks, keyBytes, txnMarks, txnBytes, entryMarks, entryBytes, setBytes}
+use Rattle.machine.specs.State.{Bytes, Txn, Entry, State, Ceilings, withActive, withEntries, advanced, Fits, MachineState, marks, keyBytes, txnMarks, txnBytes, entryMarks, entryBytes, setBytes}
 use Rattle.machine.specs.Sets.{insertAll, find, without, prune, anyActive}
-use Rattle.machine.specs.Calls.{commit, batch, dropTxn, malformed, long, full, Answer, done, absent, refused}
-use Rattle.machine.specs.Serve.{entry, isId, enter, answer}
+use Rattle.machine.specs.Calls.{commit, batch, dropTxn, malformed, long, full, done, absent, refused}
+use Rattle.machine.specs.Serve.{entry, enter, answer}
 use Rattle.machine.proofs.Kept.{fits-means}
 use Rattle.machine.proofs.ListLaws.{sum-append}
 use Rattle.machine.proofs.EntryLaws.{empty-rule, rule-idle, anyone-keeps}

@@ -1,17 +1,16 @@
 -- What the machine answers to each call, from plain facts on the state: begin, minimum and check.
-use Prim.Native.Nat.{ℕ, suc, _+_, _≤_, _<_}
-use mathlib.Core.Path.{_≡_, refl, sym, ap, _∙_}
+use Prim.Native.Nat.{_≤_, _<_}
+use mathlib.Core.Path.{_≡_, refl}
 use mathlib.Core.Bool.{Bool, true, false}
-use mathlib.Core.List.{List, [], _∷_, _++_}
-use mathlib.Core.Option.{Option, none, some}
+use mathlib.Core.List.{List, [], _∷_}
+use mathlib.Core.Option.{none, some}
 use native.Mathlib.Omega.{arith}
 use borrow.Author.Tests.{eq-eqb, ne-eqb}
-use lib.Dec.{eqb}
 use lib.ListN.{length}
 use Rattle.machine.specs.Lists.{sum}
-use Rattle.machine.specs.State.{Bytes, Txn, Entry, State, Ceilings, newTxn, fits, Fits, MachineState, marks, keyBytes, txnMarks, txnBytes}
-use Rattle.machine.specs.Sets.{put, find, least, leastOf, conflict}
-use Rattle.machine.specs.Calls.{begin, check, minimum, malformed, again, full, Answer, done, absent, refused}
+use Rattle.machine.specs.State.{Bytes, Txn, State, Ceilings, newTxn, fits, Fits, marks, txnMarks, txnBytes}
+use Rattle.machine.specs.Sets.{find, leastOf, conflict}
+use Rattle.machine.specs.Calls.{begin, check, minimum, malformed, again, full, done, absent, refused}
 use Rattle.machine.specs.Serve.{isId, verdict, answer}
 use Rattle.machine.specs.Serve as Serve
 use Rattle.machine.proofs.Kept.{fits-means}

@@ -1,9 +1,9 @@
 -- What the machine answers to a track, from plain facts on the state.
-use Prim.Native.Nat.{ℕ, suc, _+_, _-_, _≤_, _<_}
+use Prim.Native.Nat.{ℕ, _+_, _-_, _≤_, _<_}
 use mathlib.Core.Path.{_≡_, refl, sym, ap, _∙_}
-use mathlib.Core.Bool.{Bool, true, false, _&&_}
-use mathlib.Core.List.{List, [], _∷_, _++_}
-use mathlib.Core.Option.{Option, none, some}
+use mathlib.Core.Bool.{Bool, true, false}
+use mathlib.Core.List.{List}
+use mathlib.Core.Option.{none, some}
 use mathlib.Core.Logic.{_⊎_, inl, inr}
 use native.Mathlib.Omega.{arith}
 use lib.ListN.{length}
@@ -11,10 +11,9 @@ use Rattle.bounds.specs.Ranges.{Range, notEmpty}
 use Rattle.fields.specs.Fields.{keyList, boundsOf}
 use Rattle.fields.specs.Forms.{shortKeys}
 use Rattle.machine.specs.declared.Which.{Which}
-use Rattle.machine.specs.Lists.{sum}
-use Rattle.machine.specs.State.{Bytes, Txn, Entry, State, Ceilings, fits, Fits, MachineState, marks, keyBytes, txnMarks, txnBytes}
-use Rattle.machine.specs.Sets.{put, find}
-use Rattle.machine.specs.Calls.{trackKeys, trackRange, malformed, long, empty, full, Answer, done, absent, refused}
+use Rattle.machine.specs.State.{Bytes, Txn, State, Ceilings, Fits, MachineState, marks, keyBytes, txnMarks, txnBytes}
+use Rattle.machine.specs.Sets.{find}
+use Rattle.machine.specs.Calls.{trackKeys, trackRange, malformed, long, empty, full, done, absent, refused}
 use Rattle.machine.specs.Serve.{isId, shortRange, addKeys, addRange, withTxn, track, answer}
 use Rattle.machine.proofs.Kept.{fits-means}
 use Rattle.machine.proofs.ActiveLaws.{find-id, put-known-sum, put-known-length}

@@ -1,11 +1,11 @@
 -- Pruning never changes a verdict of anyone active or of anyone who begins later.
 use Prim.Native.Nat.{ℕ, _≤_, max}
 use mathlib.Core.Path.{_≡_, refl, sym, ap, _∙_}
-use mathlib.Core.Bool.{Bool, true, _||_, or-assoc}
-use mathlib.Core.List.{List, [], _∷_, _++_, List·Memᴰ, List·Memᴰ·not-nil}
+use mathlib.Core.Bool.{Bool, _||_, or-assoc}
+use mathlib.Core.List.{List, [], _∷_, _++_, List·Memᴰ}
 use native.Mathlib.Omega.{arith}
-use lib.Dec.{leb, ltb}
-use borrow.Author.Tests.{ltb-true, le-ltb, le-leb}
+use lib.Dec.{ltb}
+use borrow.Author.Tests.{ltb-true, le-ltb}
 use Rattle.machine.specs.Lists.{any, keep, All}
 use Rattle.machine.specs.State.{Bytes, Txn, Entry, State, Ceilings, EntryOk, MachineState}
 use Rattle.machine.specs.Sets.{prune, inReach, anyActive, tracks, conflict}
@@ -62,15 +62,14 @@ prune-active ts es t m = same-verdict t (prune ts es) es (rule-above inReach pru
 
 -- ---------------------------------------------------------------- who begins later
 
-old-verdict : (t : Txn) (es fs : List Entry) → UpTo (t .start) es → UpTo (t .start) fs → conflict t es ≡ conflict t fs
-old-verdict t es fs a b = same-verdict t es fs (up-to-none _ es a ∙ sym (up-to-none _ fs b))
+-- whatever leaves the list, who starts at the greatest sequence or above did not see it
+leaving-later : (stays : Entry → Bool) (es : List Entry) (t : Txn) → UpTo (t .start) es → conflict t (keep stays es) ≡ conflict t es
+leaving-later stays es t a = same-verdict t (keep stays es) es (up-to-none _ _ (keep-all _ stays es a) ∙ sym (up-to-none _ es a))
 
 module _ (L : Ceilings) (s : State) (ok : MachineState L s) (ts : List Txn) (t : Txn) where
   -- who begins later starts at the last number or above
   pub prune-later : s .last ≤ t .start → conflict t (prune ts (s .entries)) ≡ conflict t (s .entries)
-  prune-later h =
-      let a = up-to-larger _ (t .start) (s .entries) h (up-to-last L s ok) in
-      old-verdict t _ _ (keep-all _ (inReach ts) (s .entries) a) a
+  prune-later h = leaving-later (inReach ts) (s .entries) t (up-to-larger _ (t .start) (s .entries) h (up-to-last L s ok))
 
   -- the list is emptied by a commit or a batch too, where nobody is left active
   pub empty-later :
@@ -79,8 +78,7 @@ module _ (L : Ceilings) (s : State) (ok : MachineState L s) (ts : List Txn) (t :
       → conflict t (keep (anyActive ts) (s .entries ++ (entry n ks ∷ []))) ≡ conflict t (s .entries ++ (entry n ks ∷ []))
   empty-later n ks h =
       let a = up-to-larger _ (t .start) (s .entries) (omega arith) (up-to-last L s ok) in
-      let b : UpTo (t .start) (s .entries ++ (entry n ks ∷ [])) = all-append _ (s .entries) (entry n ks ∷ []) a (omega arith, tt) in
-      old-verdict t _ _ (keep-all _ (anyActive ts) _ b) b
+      leaving-later (anyActive ts) _ t (all-append _ (s .entries) (entry n ks ∷ []) a (omega arith, tt))
 
 -- ---------------------------------------------------------------- and afterwards
 

@@ -7,7 +7,7 @@ use mathlib.Core.Option.{Option, none, some}
 use native.Mathlib.Omega.{arith}
 use borrow.Author.Tests.{ltb-true, ltb-false, leb-true, leb-false, lt-ltb, le-ltb, le-leb, lt-leb}
 use lib.Dec.{leb, ltb}
-use lib.ListN.{length, length-append}
+use lib.ListN.{length}
 use Rattle.bounds.specs.Ranges.{Range, notEmpty}
 use Rattle.fields.specs.Fields.{keyList, boundsOf}
 use Rattle.fields.specs.Forms.{shortKeys}
@@ -15,9 +15,9 @@ use Rattle.machine.specs.declared.Which.{Which}
 use Rattle.machine.specs.Lists.{isNil, keep, sum}
 use Rattle.machine.specs.State.{Bytes, Txn, Entry, State, Ceilings, newTxn, MachineState, marks, keyBytes, txnMarks, txnBytes, entryMarks, entryBytes, fits}
 use Rattle.machine.specs.Sets.{insertAll, find, without, anyActive}
-use Rattle.machine.specs.Calls.{Op, begin, trackKeys, trackRange, check, commit, batch, dropTxn, minimum, ofSome, on, holding, malformed, long, full, done, refused, reply, _>>=_, _>>_, need, given}
+use Rattle.machine.specs.Calls.{Op, begin, trackKeys, trackRange, check, commit, batch, dropTxn, minimum, on, holding, full, done, reply, _>>=_, _>>_, need}
 use Rattle.machine.specs.Serve.{entry, isId, isNew, shortRange, addKeys, addRange, withTxn, begun, entered, settle, track, answer, serve}
-use Rattle.machine.specs.Table.{isNone, passesTotal, trackPasses, statusOf}
+use Rattle.machine.specs.Table.{passesTotal, trackPasses, statusOf}
 use Rattle.machine.proofs.ListLaws.{not-nil}
 use Rattle.machine.proofs.EntryLaws.{empty-rule, rule-idle, entry-sum, entry-length}
 use Rattle.machine.proofs.ActiveLaws.{find-id, put-new-sum, put-new-length, put-known-length, without-sum, without-length}

@@ -11,12 +11,11 @@ use lib.ListN.{length}
 use Rattle.bounds.specs.Ranges.{Range}
 use Rattle.fields.specs.Fields.{boundsOf}
 use Rattle.machine.specs.Lists.{keep}
-use Rattle.machine.specs.declared.Which.{Which}
 use Rattle.machine.specs.declared.Which.the-variants.{Writes, Reads}
 use Rattle.machine.specs.State.{Bytes, Txn, Entry, State, Ceilings, freshState, advanced}
 use Rattle.machine.specs.Sets.{insertAll, put, find, without, leastOf, least, prune, inReach, anyActive, conflict}
 use Rattle.machine.specs.Calls.{Op, begin, check, commit, batch, dropTxn, minimum, on, Room, short, broken, holding, Refusal, Answer, done, absent, refused, Reply, replied, reply, _>>=_, given}
-use Rattle.machine.specs.Serve.{entry, verdict, addKeys, withTxn, begun, entered, dropped, answer, serve}
+use Rattle.machine.specs.Serve.{entry, verdict, withTxn, begun, entered, dropped, answer, serve}
 use Rattle.machine.specs.History.{World, afterCall, afterCalls, start}
 use Rattle.machine.specs.Rust.{Committed, Manager, manager, checkTxn, checkHasConflict, minWith, minStartedSeq, onRange, committed, clearIdle, retains, recycle, asNumber, rust, rustRun, Same, Agree, Value, Unrefused}
 use Rattle.machine.proofs.ListLaws.{not-nil}

@@ -2,7 +2,7 @@
 use Prim.Native.Nat.{ℕ, suc, _+_, _≤_}
 use mathlib.Core.Path.{_≡_, refl, sym, ap, _∙_, subst}
 use mathlib.Core.Bool.{Bool, true, false, cond, not, _||_, false≢true, true≢false}
-use mathlib.Core.List.{List, [], _∷_, _++_, List·Memᴰ, List·Memᴰ·head, List·Memᴰ·not-nil}
+use mathlib.Core.List.{List, [], _∷_, List·Memᴰ, List·Memᴰ·head, List·Memᴰ·not-nil}
 use mathlib.Core.Logic.{_↔_, _⊎_, inl, inr, Iff·trans}
 use mathlib.Core.Option.{some}
 use native.Mathlib.Omega.{arith}
@@ -13,9 +13,9 @@ use lib.ListN.{length, length-append}
 use Rattle.bounds.specs.Ranges.{Range}
 use Rattle.fields.specs.Fields.{keyList, boundsOf}
 use Rattle.machine.specs.declared.Which.{Which}
-use Rattle.machine.specs.Lists.{isNil, keep, sum}
-use Rattle.machine.specs.State.{Bytes, Txn, Entry, State, Ceilings, setOf, MachineState, marks, keyBytes, rangeBytes, txnMarks, txnBytes, entryMarks, entryBytes}
-use Rattle.machine.specs.Sets.{equal, insertAll, find, without, anyActive}
+use Rattle.machine.specs.Lists.{isNil, sum}
+use Rattle.machine.specs.State.{Bytes, Txn, State, Ceilings, setOf, MachineState, marks, keyBytes, rangeBytes, txnMarks, txnBytes, entryMarks, entryBytes}
+use Rattle.machine.specs.Sets.{equal, insertAll, find, without}
 use Rattle.machine.specs.Calls.{Op, begin, trackKeys, trackRange, check, commit, batch, dropTxn, minimum, ofSome, on, holding}
 use Rattle.machine.specs.Serve.{entry, addKeys, addRange, withTxn, withEntry, serve}
 use Rattle.machine.specs.Table.{isMalformed, isLong, isEmptyRange, isAgain, isAbsent, isFull, passesTotal, trackPasses}

@@ -14,7 +14,7 @@ use Rattle.machine.specs.declared.Which.{Which}
 use Rattle.machine.specs.State.{Bytes, Txn, Entry, State, Ceilings, setOf, withSet, withRanges, freshState, withActive, withEntries, advanced, txnMarks, fits}
 pub use Rattle.machine.specs.State.{newTxn}
 use Rattle.machine.specs.Sets.{insertAll, put, find, without, least, pruned, emptiedIfIdle, conflict}
-use Rattle.machine.specs.Calls.{Op, begin, trackKeys, trackRange, check, commit, batch, dropTxn, minimum, Call, fresh, on, Room, short, broken, holding, Refusal, malformed, again, long, empty, full, Answer, done, absent, refused, Reply, replied, reply, Step, _>>=_, _>>_, need, given}
+use Rattle.machine.specs.Calls.{Op, begin, trackKeys, trackRange, check, commit, batch, dropTxn, minimum, Call, fresh, on, Room, short, broken, holding, malformed, again, long, empty, full, Answer, done, absent, refused, Reply, replied, reply, _>>=_, _>>_, need, given}
 
 abbrev pub state : ℕ → List Txn → List Entry → State
 state n ts es = record { last = n; active = ts; entries = es }

@@ -1,7 +1,7 @@
 -- What the calls do to sets, to the active transactions and to the entries.
 use Prim.Native.Nat.{ℕ, min}
 use mathlib.Core.Bool.{Bool, true, false, cond, not, _&&_, _||_}
-use mathlib.Core.List.{List, [], _∷_, _++_}
+use mathlib.Core.List.{List, [], _∷_}
 use mathlib.Core.Option.{Option, none, some}
 use mathlib.Core.Ordering.{Ordering, lt, eq, gt}
 use lib.Dec.{leb, ltb}

@@ -9,8 +9,8 @@ use mathlib.Core.Ordering.{then}
 use Rattle.keys.specs.Order.{order, isSame, isLess}
 use Rattle.keys.proofs.Heads.{head-more, head-same, Three, below, equal, above, three}
 use Rattle.keys.proofs.OrderLaws.{order-refl, order-eq}
-use Rattle.kinds.specs.Bounds.{included, excluded}
-use Rattle.bounds.specs.Ranges.{range, holds, notEmpty, intersectOf, joinOf, unionOf}
+use Rattle.kinds.specs.Bounds.{included}
+use Rattle.bounds.specs.Ranges.{range, holds, intersectOf, joinOf, unionOf}
 use Rattle.bounds.proofs.Points.{point-holds, same-is}
 use Rattle.ranges.specs.Making.{newOf}
 use Rattle.ranges.specs.Prefixes.{increment, raised}

@@ -1,24 +1,22 @@
 -- Which call a record is, from what the code sees of its payload.
-use Prim.Native.Nat.{ℕ, suc, _+_, _-_, _≤_, _<_}
+use Prim.Native.Nat.{ℕ, _+_, _-_, _≤_, _<_}
 use mathlib.Core.Path.{_≡_, refl, sym, ap, ap₂, _∙_}
-use mathlib.Core.Bool.{Bool, true, false, cond}
-use mathlib.Core.List.{List, [], _∷_, _++_}
-use mathlib.Core.Option.{Option, none, some}
+use mathlib.Core.List.{List, [], _∷_}
+use mathlib.Core.Option.{none, some}
 use native.Mathlib.Omega.{arith}
 use borrow.Author.Tests.{ne-eqb}
-use lib.Dec.{eqb}
 use lib.ListN.{length, take, drop, length-append, length-drop, drop-of-length-le}
 use lib.Seq.{take-all}
 use borrow.Rule.Slice.PartAt.{part-to-end}
-use Rattle.codec.specs.Codec.{Item, item, cut, Codec}
+use Rattle.codec.specs.Codec.{Item, item, cut}
 use Rattle.codec.specs.Formats.{number}
 use Rattle.codec.specs.Places.{Stands}
 use Rattle.codec.proofs.NumberLaws.{length-number}
 use Rattle.machine.specs.State.{State, Ceilings}
-use Rattle.machine.specs.Calls.{Op, commit, batch, minimum, Call, on, holding, short, broken, replied}
+use Rattle.machine.specs.Calls.{Op, commit, batch, minimum, Call, on, holding, replied}
 use Rattle.machine.specs.Serve.{serve, answer}
 use Rattle.layout.specs.Rooms.{Served}
-use Rattle.script.specs.Script.{withNumber, whenEmpty, commitOf, batchOf, callOf, refusedCall, asCall, called, IdEnds}
+use Rattle.script.specs.Script.{withNumber, whenEmpty, commitOf, batchOf, refusedCall, asCall, called, IdEnds}
 
 -- a payload that is no call's is status 2, value 0, in every state
 pub refused-two : (L : Ceilings) (s : State) → serve L (holding s) refusedCall ≡ replied 2 0 (holding s)

@@ -3,6 +3,7 @@ ghost use Rattle.layout.specs.Rooms.{Served};
 ghost use Rattle.script.specs.Script.{called, refusedCall, IdEnds};
 use answers::Answer;
 use codec::numbers::read_eight;
+use layout::ID;
 use manager::transaction_manager::check_has_conflict;
 use manager::transaction_manager::drop_txn;
 use manager::transaction_manager::min_active_seq;
@@ -13,8 +14,7 @@ use manager::transaction_manager::track_recent_committed_txn;
 use manager::transaction_manager::track_recent_committed_write_batch;
 use manager::transaction_manager::track_write_keys;
 
-const ID: usize = 16;
-
+// A sequence takes this many bytes.
 const SEQ: usize = 8;
 
 pub fn serve_record(room: &mut [u8], tag: u8, payload: &[u8]) -> Answer

@@ -1,17 +1,13 @@
 -- The search for a key's place in a set, a key at a time.
 use Prim.Native.Nat.{ℕ, suc, _+_, _-_, _≤_, _<_}
 use mathlib.Core.Path.{_≡_, refl, sym, ap, _∙_}
-use mathlib.Core.Bool.{true, false}
 use mathlib.Core.List.{List, [], _∷_, _++_, append-assoc}
 use mathlib.Core.Ordering.{Ordering, lt, eq, gt}
 use native.Mathlib.Omega.{arith}
 use lib.ListN.{length}
 use lib.Seq.{slice}
-use lib.IntN.{ℤ, pos}
-use lib.Signed.{ltZ}
-use mir.Syntax.{w8}
-use mir.Val.{toZ, ofZ}
-use Rattle.keys.specs.Order.{order, sign}
+use lib.IntN.{pos}
+use Rattle.keys.specs.Order.{order}
 use Rattle.machine.specs.State.{Bytes, base}
 use Rattle.machine.specs.Sets.{insert, stands}
 use Rattle.moves.proofs.SpliceLaws.{drop-take}

@@ -1,16 +1,15 @@
 -- A track of keys, one law for each way it ends.
 use Prim.Native.Nat.{ℕ, _+_, _-_, _≤_, _<_}
 use mathlib.Core.Path.{_≡_, refl, _∙_}
-use mathlib.Core.Bool.{Bool, true, false, cond}
+use mathlib.Core.Bool.{true}
 use mathlib.Core.List.{List, _∷_, _++_}
 use mathlib.Core.Logic.{_⊎_, inl, inr}
-use mathlib.Core.Option.{Option, none, some}
+use mathlib.Core.Option.{some}
 use native.Mathlib.Omega.{arith}
 use lib.ListN.{length}
-use Rattle.keys.specs.Limit.{keyLimit}
 use Rattle.fields.specs.declared.Form.{Form}
 use Rattle.fields.specs.Fields.{keyList}
-use Rattle.fields.specs.Forms.{shortKeys, formOf}
+use Rattle.fields.specs.Forms.{formOf}
 use Rattle.machine.specs.Lists.{sum}
 use Rattle.machine.specs.declared.Which.{Which}
 use Rattle.machine.specs.State.{Bytes, Txn, base, setOf, marks, keyBytes, setBytes, txnMarks, txnBytes}

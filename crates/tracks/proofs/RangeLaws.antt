@@ -13,7 +13,6 @@ use Rattle.fields.specs.Fields.{boundsOf}
 use Rattle.machine.specs.Lists.{sum}
 use Rattle.machine.specs.State.{Bytes, Txn, base, marks, keyBytes, rangeBytes, txnMarks, txnBytes}
 use Rattle.machine.specs.Calls.{on, trackRange, malformed, long, empty, full}
-use Rattle.machine.specs.Sets.{put}
 use Rattle.machine.specs.Serve.{shortRange, addRange, withTxn, track, answer}
 use Rattle.machine.proofs.ListLaws.{sum-append}
 use Rattle.layout.specs.Keys.{rangeForm, rangesForm}

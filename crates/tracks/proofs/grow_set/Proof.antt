@@ -1,3 +1,5 @@
+-- The set's keys are copied behind the first two bytes of a draft, added to there, and the draft's record takes the set's place:
+-- what the draft holds is what the room's set becomes.
 use Prim.Native.Nat.{_+_, _-_}
 use denote.Ref.{now}
 use Rattle.tracks.specs.declared.drafts.Drafted.{Drafted}
@@ -7,13 +9,6 @@ use Rattle.tracks.proofs.GrowLaws.{head-inside, Copied, set-inside, len
 use borrow.Author.Needs.{needs}
 use Rattle.tracks.proofs.grow_set.Statement.{statement}
 use Rattle.tracks.proofs.grow_set.Tie as tie
-use Rattle.tracks.proofs.grow_set.Reads as reads
-use Rattle.tracks.proofs.grow_set.Lts as lts
-use Rattle.codec.proofs.numbers.read_two.Reads as read-two-reads
-use Rattle.tracks.proofs.drafts.draft_keys.Reads as draft-keys-reads
-use Rattle.moves.proofs.copy_in.Reads as copy-in-reads
-use Rattle.moves.proofs.splice.Reads as splice-reads
-use Rattle.places.proofs.skips.set_past.Reads as set-past-reads
 
 -- the draft with the set's keys
 was-copied : (c : tie.After-copy-in) → Copied (c .copy-in .last .0) (lent (c .before .before .before .before .before .before .before .before .before .before .pre) (c .before .before .before .before .before .before .set-past .ensures))

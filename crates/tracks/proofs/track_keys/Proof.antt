@@ -1,3 +1,4 @@
+-- Each way out has its law in KeysLaws; what is known of the arguments and of the transaction that was found is named first.
 use mathlib.Core.Path.{_≡_, sym, _∙_}
 use mathlib.Core.Logic.{inl, inr}
 use native.Mathlib.Omega.{arith}
@@ -14,12 +15,6 @@ use Rattle.tracks.proofs.KeysLaws.{keys-refused, keys-too-long, keys-ab
 use borrow.Author.Needs.{needs}
 use Rattle.tracks.proofs.track_keys.Statement.{statement}
 use Rattle.tracks.proofs.track_keys.Tie as tie
-use Rattle.tracks.proofs.track_keys.Reads as reads
-use Rattle.tracks.proofs.track_keys.Lts as lts
-use Rattle.fields.proofs.check_keys.Reads as check-keys-reads
-use Rattle.places.proofs.finds.find_txn.Reads as find-txn-reads
-use Rattle.tracks.proofs.grow_set.Reads as grow-set-reads
-use Rattle.tracks.proofs.set_at.Reads as set-at-reads
 
 -- what is known of the arguments, and of the transaction once it is found
 is-id : (c : tie.Else1) → length (now (c .before .before .before .before .args .id)) ≡ 16

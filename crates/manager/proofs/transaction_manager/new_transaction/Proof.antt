@@ -1,41 +1,30 @@
+-- The view of a room that opens is what the begin asks for; a room that does not open is answered 7 and left as it was.
 use Rattle.answers.proofs.SeenLaws.{seen-nothing}
 use borrow.Author.Needs.{needs}
 use Rattle.manager.proofs.transaction_manager.new_transaction.Statement.{statement}
 use Rattle.manager.proofs.transaction_manager.new_transaction.Tie as tie
-use Rattle.manager.proofs.transaction_manager.new_transaction.Reads as reads
-use Rattle.manager.proofs.transaction_manager.new_transaction.Lts as lts
-use Rattle.room.proofs.open.Reads as open-reads
-use Rattle.starts.proofs.begin.Reads as begin-reads
 
--- src/transaction_manager.rt:16:11
 open-requires : tie.Need-open-requires
 open-requires c κs = search needs
 
--- src/transaction_manager.rt:17:20
 enum-known-view : tie.Need-enum-known-view
 enum-known-view c = search needs
 
--- src/transaction_manager.rt:17:29
 begin-requires : tie.Need-begin-requires
 begin-requires c κs = rw (c .before .before .view .given .1) at (c .before .before .before .before .open .ensures)
 
--- src/transaction_manager.rt:18:24
 enum-told : tie.Need-enum-told
 enum-told c = search needs
 
--- src/transaction_manager.rt:13:1
 same-length : tie.Need-same-length
 same-length c = search needs
 
--- src/transaction_manager.rt:13:1
 returns : tie.Need-returns
 returns c = search needs
 
--- src/transaction_manager.rt:13:1
 same-length-2 : tie.Need-same-length-2
 same-length-2 c = search needs
 
--- src/transaction_manager.rt:13:1
 returns-2 : tie.Need-returns-2
 returns-2 c = seen-nothing _ (rw (c .enum-told .given .1) at (c .before .before .open .ensures))
 

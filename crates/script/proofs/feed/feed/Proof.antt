@@ -1,4 +1,5 @@
-use Prim.Native.Nat.{ℕ, _+_, _-_, _≤_}
+-- Turn by turn the records before `at` were served and their lines are the first `put` bytes (`FedTo`).
+use Prim.Native.Nat.{_-_}
 use mathlib.Core.Path.{_≡_, refl, _∙_}
 use native.Mathlib.Omega.{arith}
 use borrow.Author.Needs.{needs}
@@ -11,11 +12,6 @@ use Rattle.script.specs.Played.{FedTo}
 use Rattle.script.proofs.PlayedLaws.{fed-none, fed-on}
 use Rattle.script.proofs.feed.feed.Statement.{statement}
 use Rattle.script.proofs.feed.feed.Tie as tie
-use Rattle.script.proofs.feed.feed.Reads as reads
-use Rattle.script.proofs.feed.feed.Lts as lts
-use Rattle.script.proofs.lines.put_line.Reads as put-line-reads
-use Rattle.script.proofs.records.next_record.Reads as next-record-reads
-use Rattle.script.proofs.served.serve_record.Reads as serve-record-reads
 
 abbrev Inv-loop : tie.InvT-loop
 Inv-loop room₀ bytes out₀ at₀ put₀ room out at put = FedTo room₀ bytes out₀ at put room out × (length room ≡ length room₀)
@@ -27,91 +23,69 @@ abbrev μ-loop : tie.MeasureT-loop
 seen : (c : tie.After-tag Inv-loop μ-loop) → NextIs (now (c .before .before .before .before .before .before .before .before .args .bytes)) (c .before .before .before .before .loop .at) (Next.Whole (c .tag .given .0 .0) (c .tag .given .0 .1 .0) (c .tag .given .0 .1 .1 .0))
 seen c = rw (c .tag .given .1) at (c .before .before .next-record .ensures)
 
--- src/feed.rt:22:5
 loop-holds : tie.Need-loop-holds Inv-loop μ-loop
 loop-holds c = (fed-none _ _ _, refl)
 
--- src/feed.rt:23:12
 sub-if1 : tie.Need-sub-if1 Inv-loop μ-loop
 sub-if1 c = omega (arith, c .loop .inv .0 .fits, c .loop .inv .0 .size)
 
--- src/feed.rt:24:13
 same-length : tie.Need-same-length Inv-loop μ-loop
 same-length c = c .before .loop .inv .1
 
--- src/feed.rt:24:13
 same-length-2 : tie.Need-same-length-2 Inv-loop μ-loop
 same-length-2 c = c .before .loop .inv .0 .size
 
--- src/feed.rt:24:13
 returns : tie.Need-returns Inv-loop μ-loop
 returns c = (c .before .loop .inv .0, omega (arith, c .if1 .taken, c .before .loop .inv .0 .size))
 
--- src/feed.rt:26:15
 next-record-requires : tie.Need-next-record-requires Inv-loop μ-loop
 next-record-requires c κs = tt
 
--- src/feed.rt:27:27
 enum-known-tag : tie.Need-enum-known-tag Inv-loop μ-loop
 enum-known-tag c = search needs
 
--- src/feed.rt:28:54
 sub-serve-record : tie.Need-sub-serve-record Inv-loop μ-loop
 sub-serve-record c = omega (arith, seen (c .before .before))
 
--- src/feed.rt:28:54
 part-serve-record-start : tie.Need-part-serve-record-start Inv-loop μ-loop
 part-serve-record-start c = omega (arith, seen (c .before .before))
 
--- src/feed.rt:28:54
 part-serve-record-end : tie.Need-part-serve-record-end Inv-loop μ-loop
 part-serve-record-end c = omega (arith, seen (c .before .before))
 
--- src/feed.rt:28:21
 serve-record-requires : tie.Need-serve-record-requires Inv-loop μ-loop
 serve-record-requires c κs = tt
 
--- src/feed.rt:29:17
 put-line-requires : tie.Need-put-line-requires Inv-loop μ-loop
 put-line-requires c κs = omega (arith, c .before .before .before .before .before .before .before .before .before .before .if1 .left, c .before .before .before .before .before .before .before .before .before .before .before .loop .inv .0 .size)
 
--- src/feed.rt:22:5
 loop-less : tie.Need-loop-less Inv-loop μ-loop
 loop-less c = omega (arith, seen (c .before .before .before .before .before .before .before .before .before .before), c .before .before .before .before .before .before .before .before .before .before .before .before .before .before .loop .inv .0 .inside)
 
--- src/feed.rt:22:5
 loop-again : tie.Need-loop-again Inv-loop μ-loop
 loop-again c = (fed-on (c .before .before .before .before .before .before .before .before .before .before .before .before .before .before .loop .inv .0) (seen (c .before .before .before .before .before .before .before .before .before .before)) (c .before .before .before .before .before .before .serve-record .ensures) (c .before .before .put-line .ensures) (answer-short _ _ (omega (arith, c .before .before .before .before .before .before .serve-record .ok)) (omega (arith, c .before .before .before .before .before .before .serve-record .ok))) (omega (arith, c .before .before .before .before .before .before .before .before .before .before .before .before .before .if1 .left, c .before .before .before .before .before .before .before .before .before .before .before .before .before .before .loop .inv .0 .size)), c .before .before .before .before .before .before .serve-record .ensures .size ∙ c .before .before .before .before .before .before .before .before .before .before .before .before .before .before .loop .inv .1)
 
--- src/feed.rt:32:27
 enum-told : tie.Need-enum-told Inv-loop μ-loop
 enum-told c = search needs
 
--- src/feed.rt:32:27
 same-length-3 : tie.Need-same-length-3 Inv-loop μ-loop
 same-length-3 c = c .before .before .before .before .loop .inv .1
 
--- src/feed.rt:32:27
 same-length-4 : tie.Need-same-length-4 Inv-loop μ-loop
 same-length-4 c = c .before .before .before .before .loop .inv .0 .size
 
--- src/feed.rt:32:27
 returns-2 : tie.Need-returns-2 Inv-loop μ-loop
 returns-2 c = (c .before .before .before .before .loop .inv .0, rw (c .enum-told .given .1) at (c .before .before .next-record .ensures))
 
--- src/feed.rt:33:27
 enum-told-2 : tie.Need-enum-told-2 Inv-loop μ-loop
 enum-told-2 c = search needs
 
--- src/feed.rt:33:27
 same-length-5 : tie.Need-same-length-5 Inv-loop μ-loop
 same-length-5 c = c .before .before .before .before .loop .inv .1
 
--- src/feed.rt:33:27
 same-length-6 : tie.Need-same-length-6 Inv-loop μ-loop
 same-length-6 c = c .before .before .before .before .loop .inv .0 .size
 
--- src/feed.rt:33:27
 returns-3 : tie.Need-returns-3 Inv-loop μ-loop
 returns-3 c = (c .before .before .before .before .loop .inv .0, rw (c .enum-told2 .given .1) at (c .before .before .next-record .ensures))
 

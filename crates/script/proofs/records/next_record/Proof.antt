@@ -1,85 +1,64 @@
+-- Each way out has its law in RecordLaws, by the bytes that were read before it.
 use native.Mathlib.Omega.{arith}
 use Rattle.script.proofs.RecordLaws.{none-left, tag-low, tag-high, head-cut, too-long, payload-cut, record-here}
 use borrow.Author.Needs.{needs}
 use Rattle.script.proofs.records.next_record.Statement.{statement}
 use Rattle.script.proofs.records.next_record.Tie as tie
-use Rattle.script.proofs.records.next_record.Reads as reads
-use Rattle.script.proofs.records.next_record.Lts as lts
-use Rattle.script.proofs.records.wide.Reads as wide-reads
 
--- src/lib.rt:31:9
 returns : tie.Need-returns
 returns c = none-left _ _ (omega arith)
 
--- src/lib.rt:33:16
 sub-left : tie.Need-sub-left
 sub-left c = search needs
 
--- src/lib.rt:34:15
 shared-slice-read-tag : tie.Need-shared-slice-read-tag
 shared-slice-read-tag c = search needs
 
--- src/lib.rt:36:9
 returns-2 : tie.Need-returns-2
 returns-2 c = tag-low _ _ (omega arith) (omega arith)
 
--- src/lib.rt:39:9
 returns-3 : tie.Need-returns-3
 returns-3 c = tag-high _ _ (omega arith) (omega arith)
 
--- src/lib.rt:42:9
 returns-4 : tie.Need-returns-4
 returns-4 c = head-cut _ _ (omega arith) (omega arith) (omega arith) (omega arith)
 
--- src/lib.rt:44:24
 add-wide : tie.Need-add-wide
 add-wide c = search needs
 
--- src/lib.rt:44:18
 shared-slice-read-wide : tie.Need-shared-slice-read-wide
 shared-slice-read-wide c = search needs
 
--- src/lib.rt:44:13
 wide-requires : tie.Need-wide-requires
 wide-requires c κs = search needs
 
--- src/lib.rt:44:13
 mul-n : tie.Need-mul-n
 mul-n c = search needs
 
--- src/lib.rt:44:52
 add-wide-2 : tie.Need-add-wide-2
 add-wide-2 c = search needs
 
--- src/lib.rt:44:46
 shared-slice-read-wide-2 : tie.Need-shared-slice-read-wide-2
 shared-slice-read-wide-2 c = search needs
 
--- src/lib.rt:44:41
 wide-requires-2 : tie.Need-wide-requires-2
 wide-requires-2 c κs = search needs
 
--- src/lib.rt:44:13
 add-n : tie.Need-add-n
 add-n c = search needs
 
--- src/lib.rt:46:9
 returns-5 : tie.Need-returns-5
 returns-5 c = too-long _ _ (c .before .before .before .wide .result) (c .before .wide2 .result) (omega arith) (c .before .before .before .wide .ensures .0) (c .before .wide2 .ensures .0) (omega arith) (omega arith) (omega arith)
 
--- src/lib.rt:49:9
 returns-6 : tie.Need-returns-6
 returns-6 c = payload-cut _ _ (c .before .before .before .before .wide .result) (c .before .before .wide2 .result) (omega arith) (c .before .before .before .before .wide .ensures .0) (c .before .before .wide2 .ensures .0) (omega arith) (omega arith) (omega arith) (omega arith)
 
--- src/lib.rt:51:16
 add-from : tie.Need-add-from
 add-from c = search needs
 
--- src/lib.rt:52:14
 add-to : tie.Need-add-to
 add-to c = search needs
 
--- src/lib.rt:27:1
 returns-7 : tie.Need-returns-7
 returns-7 c = record-here _ _ (c .before .before .before .before .wide .result) (c .before .before .wide2 .result) (omega arith) (c .before .before .before .before .wide .ensures .0) (c .before .before .wide2 .ensures .0) (omega arith) (omega arith) (omega arith) (omega arith)
 

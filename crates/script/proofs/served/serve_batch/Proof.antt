@@ -1,51 +1,37 @@
+-- A payload that begins with a sequence is that batch with the bytes behind it as its list, and a shorter one is no call.
 use Rattle.script.proofs.CallLaws.{served-as, batch-is, batch-none}
 use borrow.Author.Needs.{needs}
 use Rattle.script.proofs.served.serve_batch.Statement.{statement}
 use Rattle.script.proofs.served.serve_batch.Tie as tie
-use Rattle.script.proofs.served.serve_batch.Reads as reads
-use Rattle.script.proofs.served.serve_batch.Lts as lts
-use Rattle.codec.proofs.numbers.read_eight.Reads as read-eight-reads
-use Rattle.manager.proofs.transaction_manager.track_recent_committed_write_batch.Reads as track-recent-committed-write-batch-reads
-use Rattle.script.proofs.served.refuse.Reads as refuse-reads
 
--- src/served.rt:89:9
 refuse-requires : tie.Need-refuse-requires
 refuse-requires c κs = search needs
 
--- src/served.rt:89:9
 same-length : tie.Need-same-length
 same-length c = search needs
 
--- src/served.rt:89:9
 returns : tie.Need-returns
 returns c = served-as (batch-none (c .before .before .before .before .before .args .payload .now) (c .before .before .if1 .taken)) (c .refuse .ensures)
 
--- src/served.rt:91:9
 read-eight-requires : tie.Need-read-eight-requires
 read-eight-requires c κs = search needs
 
--- src/served.rt:92:46
 sub-track-recent-committed-write-batch : tie.Need-sub-track-recent-committed-write-batch
 sub-track-recent-committed-write-batch c = search needs
 
--- src/served.rt:92:46
 part-track-recent-committed-write-batch-start :
     tie.Need-part-track-recent-committed-write-batch-start
 part-track-recent-committed-write-batch-start c = search needs
 
--- src/served.rt:92:46
 part-track-recent-committed-write-batch-end : tie.Need-part-track-recent-committed-write-batch-end
 part-track-recent-committed-write-batch-end c = search needs
 
--- src/served.rt:92:5
 track-recent-committed-write-batch-requires : tie.Need-track-recent-committed-write-batch-requires
 track-recent-committed-write-batch-requires c κs = search needs
 
--- src/served.rt:85:1
 same-length-2 : tie.Need-same-length-2
 same-length-2 c = search needs
 
--- src/served.rt:85:1
 returns-2 : tie.Need-returns-2
 returns-2 c = served-as (batch-is (c .before .before .before .before .before .read-eight .ensures)) (c .before .before .track-recent-committed-write-batch .ensures)
 

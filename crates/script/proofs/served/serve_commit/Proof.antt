@@ -1,54 +1,39 @@
+-- A payload of an id and a sequence is that commit, and any other is no call.
 use Rattle.script.proofs.CallLaws.{served-as, commit-is, commit-none}
 use borrow.Author.Needs.{needs}
 use Rattle.script.proofs.served.serve_commit.Statement.{statement}
 use Rattle.script.proofs.served.serve_commit.Tie as tie
-use Rattle.script.proofs.served.serve_commit.Reads as reads
-use Rattle.script.proofs.served.serve_commit.Lts as lts
-use Rattle.codec.proofs.numbers.read_eight.Reads as read-eight-reads
-use Rattle.manager.proofs.transaction_manager.track_recent_committed_txn.Reads as track-recent-committed-txn-reads
-use Rattle.script.proofs.served.refuse.Reads as refuse-reads
 
--- src/served.rt:78:25
 add-if1 : tie.Need-add-if1
 add-if1 c = search needs
 
--- src/served.rt:79:9
 refuse-requires : tie.Need-refuse-requires
 refuse-requires c κs = search needs
 
--- src/served.rt:79:9
 same-length : tie.Need-same-length
 same-length c = search needs
 
--- src/served.rt:79:9
 returns : tie.Need-returns
 returns c = served-as (commit-none (c .before .before .before .before .before .args .payload .now) (c .before .before .if1 .taken)) (c .refuse .ensures)
 
--- src/served.rt:81:9
 read-eight-requires : tie.Need-read-eight-requires
 read-eight-requires c κs = search needs
 
--- src/served.rt:82:38
 sub-track-recent-committed-txn : tie.Need-sub-track-recent-committed-txn
 sub-track-recent-committed-txn c = search needs
 
--- src/served.rt:82:38
 part-track-recent-committed-txn-start : tie.Need-part-track-recent-committed-txn-start
 part-track-recent-committed-txn-start c = search needs
 
--- src/served.rt:82:38
 part-track-recent-committed-txn-end : tie.Need-part-track-recent-committed-txn-end
 part-track-recent-committed-txn-end c = search needs
 
--- src/served.rt:82:5
 track-recent-committed-txn-requires : tie.Need-track-recent-committed-txn-requires
 track-recent-committed-txn-requires c κs = search needs
 
--- src/served.rt:75:1
 same-length-2 : tie.Need-same-length-2
 same-length-2 c = search needs
 
--- src/served.rt:75:1
 returns-2 : tie.Need-returns-2
 returns-2 c = served-as (commit-is (c .before .before .before .before .before .before .if1 .left) (c .before .before .before .before .before .read-eight .ensures)) (c .before .before .track-recent-committed-txn .ensures)
 

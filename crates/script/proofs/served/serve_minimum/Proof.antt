@@ -1,26 +1,19 @@
+-- An empty payload is the call, and any other is none.
 use native.Mathlib.Omega.{arith}
 use Rattle.script.proofs.CallLaws.{served-as, minimum-is, minimum-none}
 use borrow.Author.Needs.{needs}
 use Rattle.script.proofs.served.serve_minimum.Statement.{statement}
 use Rattle.script.proofs.served.serve_minimum.Tie as tie
-use Rattle.script.proofs.served.serve_minimum.Reads as reads
-use Rattle.script.proofs.served.serve_minimum.Lts as lts
-use Rattle.manager.proofs.transaction_manager.min_active_seq.Reads as min-active-seq-reads
-use Rattle.script.proofs.served.refuse.Reads as refuse-reads
 
--- src/served.rt:99:9
 refuse-requires : tie.Need-refuse-requires
 refuse-requires c κs = search needs
 
--- src/served.rt:99:9
 returns : tie.Need-returns
 returns c = served-as (minimum-none (c .before .before .before .before .args .payload .now) (omega arith)) (c .refuse .ensures)
 
--- src/served.rt:101:5
 min-active-seq-requires : tie.Need-min-active-seq-requires
 min-active-seq-requires c κs = search needs
 
--- src/served.rt:95:1
 returns-2 : tie.Need-returns-2
 returns-2 c = served-as (minimum-is (c .before .before .before .before .args .payload .now) (omega arith)) (c .min-active-seq .ensures)
 

@@ -1,50 +1,37 @@
+-- The payload is cut where its id ends, and what follows it are the bounds.
 use Rattle.machine.specs.Calls.{trackRange}
 use Rattle.script.proofs.CallLaws.{served-as, split-as}
 use borrow.Author.Needs.{needs}
 use Rattle.script.proofs.served.serve_range.Statement.{statement}
 use Rattle.script.proofs.served.serve_range.Tie as tie
-use Rattle.script.proofs.served.serve_range.Reads as reads
-use Rattle.script.proofs.served.serve_range.Lts as lts
-use Rattle.manager.proofs.transaction_manager.track_read_range.Reads as track-read-range-reads
-use Rattle.script.proofs.served.id_end.Reads as id-end-reads
 
--- src/served.rt:71:9
 id-end-requires : tie.Need-id-end-requires
 id-end-requires c κs = search needs
 
--- src/served.rt:72:28
 sub-track-read-range : tie.Need-sub-track-read-range
 sub-track-read-range c = search needs
 
--- src/served.rt:72:28
 part-track-read-range-start : tie.Need-part-track-read-range-start
 part-track-read-range-start c = search needs
 
--- src/served.rt:72:28
 part-track-read-range-end : tie.Need-part-track-read-range-end
 part-track-read-range-end c = search needs
 
--- src/served.rt:72:46
 sub-track-read-range-2 : tie.Need-sub-track-read-range-2
 sub-track-read-range-2 c = search needs
 
--- src/served.rt:72:46
 part-track-read-range-start-2 : tie.Need-part-track-read-range-start-2
 part-track-read-range-start-2 c = search needs
 
--- src/served.rt:72:46
 part-track-read-range-end-2 : tie.Need-part-track-read-range-end-2
 part-track-read-range-end-2 c = search needs
 
--- src/served.rt:72:5
 track-read-range-requires : tie.Need-track-read-range-requires
 track-read-range-requires c κs = search needs
 
--- src/served.rt:68:1
 same-length : tie.Need-same-length
 same-length c = search needs
 
--- src/served.rt:68:1
 returns : tie.Need-returns
 returns c = served-as (split-as trackRange (c .before .before .before .before .before .before .id-end .ensures)) (c .before .before .track-read-range .ensures)
 

@@ -1,51 +1,38 @@
+-- The payload is cut where its id ends, and what follows it is the list.
 use Rattle.machine.specs.declared.Which.the-variants.{Reads}
 use Rattle.machine.specs.Calls.{trackKeys}
 use Rattle.script.proofs.CallLaws.{served-as, split-as}
 use borrow.Author.Needs.{needs}
 use Rattle.script.proofs.served.serve_reads.Statement.{statement}
 use Rattle.script.proofs.served.serve_reads.Tie as tie
-use Rattle.script.proofs.served.serve_reads.Reads as reads
-use Rattle.script.proofs.served.serve_reads.Lts as lts
-use Rattle.manager.proofs.transaction_manager.track_read_keys.Reads as track-read-keys-reads
-use Rattle.script.proofs.served.id_end.Reads as id-end-reads
 
--- src/served.rt:64:9
 id-end-requires : tie.Need-id-end-requires
 id-end-requires c κs = search needs
 
--- src/served.rt:65:27
 sub-track-read-keys : tie.Need-sub-track-read-keys
 sub-track-read-keys c = search needs
 
--- src/served.rt:65:27
 part-track-read-keys-start : tie.Need-part-track-read-keys-start
 part-track-read-keys-start c = search needs
 
--- src/served.rt:65:27
 part-track-read-keys-end : tie.Need-part-track-read-keys-end
 part-track-read-keys-end c = search needs
 
--- src/served.rt:65:45
 sub-track-read-keys-2 : tie.Need-sub-track-read-keys-2
 sub-track-read-keys-2 c = search needs
 
--- src/served.rt:65:45
 part-track-read-keys-start-2 : tie.Need-part-track-read-keys-start-2
 part-track-read-keys-start-2 c = search needs
 
--- src/served.rt:65:45
 part-track-read-keys-end-2 : tie.Need-part-track-read-keys-end-2
 part-track-read-keys-end-2 c = search needs
 
--- src/served.rt:65:5
 track-read-keys-requires : tie.Need-track-read-keys-requires
 track-read-keys-requires c κs = search needs
 
--- src/served.rt:61:1
 same-length : tie.Need-same-length
 same-length c = search needs
 
--- src/served.rt:61:1
 returns : tie.Need-returns
 returns c = served-as (split-as (trackKeys Reads) (c .before .before .before .before .before .before .id-end .ensures)) (c .before .before .track-read-keys .ensures)
 

@@ -1,51 +1,38 @@
+-- The payload is cut where its id ends, and what follows it is the list.
 use Rattle.machine.specs.declared.Which.the-variants.{Writes}
 use Rattle.machine.specs.Calls.{trackKeys}
 use Rattle.script.proofs.CallLaws.{served-as, split-as}
 use borrow.Author.Needs.{needs}
 use Rattle.script.proofs.served.serve_writes.Statement.{statement}
 use Rattle.script.proofs.served.serve_writes.Tie as tie
-use Rattle.script.proofs.served.serve_writes.Reads as reads
-use Rattle.script.proofs.served.serve_writes.Lts as lts
-use Rattle.manager.proofs.transaction_manager.track_write_keys.Reads as track-write-keys-reads
-use Rattle.script.proofs.served.id_end.Reads as id-end-reads
 
--- src/served.rt:57:9
 id-end-requires : tie.Need-id-end-requires
 id-end-requires c κs = search needs
 
--- src/served.rt:58:28
 sub-track-write-keys : tie.Need-sub-track-write-keys
 sub-track-write-keys c = search needs
 
--- src/served.rt:58:28
 part-track-write-keys-start : tie.Need-part-track-write-keys-start
 part-track-write-keys-start c = search needs
 
--- src/served.rt:58:28
 part-track-write-keys-end : tie.Need-part-track-write-keys-end
 part-track-write-keys-end c = search needs
 
--- src/served.rt:58:46
 sub-track-write-keys-2 : tie.Need-sub-track-write-keys-2
 sub-track-write-keys-2 c = search needs
 
--- src/served.rt:58:46
 part-track-write-keys-start-2 : tie.Need-part-track-write-keys-start-2
 part-track-write-keys-start-2 c = search needs
 
--- src/served.rt:58:46
 part-track-write-keys-end-2 : tie.Need-part-track-write-keys-end-2
 part-track-write-keys-end-2 c = search needs
 
--- src/served.rt:58:5
 track-write-keys-requires : tie.Need-track-write-keys-requires
 track-write-keys-requires c κs = search needs
 
--- src/served.rt:54:1
 same-length : tie.Need-same-length
 same-length c = search needs
 
--- src/served.rt:54:1
 returns : tie.Need-returns
 returns c = served-as (split-as (trackKeys Writes) (c .before .before .before .before .before .before .id-end .ensures)) (c .before .before .track-write-keys .ensures)
 

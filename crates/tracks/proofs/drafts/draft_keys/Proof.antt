@@ -1,58 +1,43 @@
+-- What is known of the keys behind the count is known of the whole record, its new count in front.
 use native.Mathlib.Omega.{arith}
 use Rattle.tracks.proofs.DraftLaws.{keys-ready, none-added, end-inside, all-added}
 use borrow.Author.Needs.{needs}
 use Rattle.tracks.proofs.drafts.draft_keys.Statement.{statement}
 use Rattle.tracks.proofs.drafts.draft_keys.Tie as tie
-use Rattle.tracks.proofs.drafts.draft_keys.Reads as reads
-use Rattle.tracks.proofs.drafts.draft_keys.Lts as lts
-use Rattle.codec.proofs.numbers.write_two.Reads as write-two-reads
-use Rattle.tracks.proofs.sets.insert_all.Reads as insert-all-reads
 
--- src/lib.rt:28:22
 sub-insert-all : tie.Need-sub-insert-all
 sub-insert-all c = search needs
 
--- src/lib.rt:28:22
 part-insert-all-start : tie.Need-part-insert-all-start
 part-insert-all-start c = search needs
 
--- src/lib.rt:28:22
 part-insert-all-end : tie.Need-part-insert-all-end
 part-insert-all-end c = search needs
 
--- src/lib.rt:28:11
 insert-all-requires : tie.Need-insert-all-requires
 insert-all-requires c κs = keys-ready (c .before .before .before .pre)
 
--- src/lib.rt:29:25
 enum-known-used : tie.Need-enum-known-used
 enum-known-used c = search needs
 
--- src/lib.rt:30:13
 write-two-requires : tie.Need-write-two-requires
 write-two-requires c κs = search needs
 
--- src/lib.rt:32:22
 add-t17 : tie.Need-add-t17
 add-t17 c = omega (arith, end-inside (c .before .before .before .before .before .before .before .before .before .before .before .before .before .pre) _ _ _ (rw (c .before .before .before .before .before .used .given .1) at (c .before .before .before .before .before .before .before .before .before .insert-all .ensures)))
 
--- src/lib.rt:31:13
 same-length : tie.Need-same-length
 same-length c = search needs
 
--- src/lib.rt:31:13
 returns : tie.Need-returns
 returns c = all-added (c .before .before .before .before .before .before .before .before .before .before .before .before .before .pre) _ _ _ _ (rw (c .before .before .before .before .before .used .given .1) at (c .before .before .before .before .before .before .before .before .before .insert-all .ensures)) (c .before .before .write-two .ensures)
 
--- src/lib.rt:36:27
 enum-told : tie.Need-enum-told
 enum-told c = search needs
 
--- src/lib.rt:36:27
 same-length-2 : tie.Need-same-length-2
 same-length-2 c = search needs
 
--- src/lib.rt:36:27
 returns-2 : tie.Need-returns-2
 returns-2 c = none-added (c .before .before .before .before .before .before .before .before .pre) _ (rw (c .enum-told .given .1) at (c .before .before .before .before .insert-all .ensures))
 

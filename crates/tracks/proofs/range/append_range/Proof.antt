@@ -1,15 +1,10 @@
+-- The count of the ranges stands behind both sets; the bounds go to the end of the transaction's record, and the count is one more.
 use native.Mathlib.Omega.{arith}
 use Rattle.answers.proofs.FoundLaws.{writes-here}
 use Rattle.tracks.proofs.AppendLaws.{txn-stands, reads-here, count-inside, few-ranges, appended}
 use borrow.Author.Needs.{needs}
 use Rattle.tracks.proofs.range.append_range.Statement.{statement}
 use Rattle.tracks.proofs.range.append_range.Tie as tie
-use Rattle.tracks.proofs.range.append_range.Reads as reads
-use Rattle.tracks.proofs.range.append_range.Lts as lts
-use Rattle.codec.proofs.numbers.read_two.Reads as read-two-reads
-use Rattle.codec.proofs.numbers.write_two.Reads as write-two-reads
-use Rattle.moves.proofs.splice.Reads as splice-reads
-use Rattle.places.proofs.skips.set_past.Reads as set-past-reads
 
 add-set-past : tie.Need-add-set-past
 add-set-past c = search needs

@@ -1,3 +1,4 @@
+-- The verdict by the places of the two keys is the verdict on the range that the bounds are read as.
 use Prim.Native.Nat.{ℕ, _-_, _≤_, _<_}
 use mathlib.Core.Path.{sym, _∙_}
 use mathlib.Core.Logic.{⊎-map}
@@ -10,11 +11,6 @@ use Rattle.tracks.proofs.JudgeLaws.{keys-within, judged-malformed, judg
 use borrow.Author.Needs.{needs}
 use Rattle.tracks.proofs.range.check_range.Statement.{statement}
 use Rattle.tracks.proofs.range.check_range.Tie as tie
-use Rattle.tracks.proofs.range.check_range.Reads as reads
-use Rattle.tracks.proofs.range.check_range.Lts as lts
-use Rattle.bounds.proofs.comparable_range.ComparableRange.new.Reads as new-reads
-use Rattle.bounds.proofs.comparable_range.ComparableRange.non_empty.Reads as non-empty-reads
-use Rattle.fields.proofs.read_bounds.Reads as read-bounds-reads
 
 -- the two bounds that were read, in bytes, with keys within the limit
 seen : (c : tie.After-p) → BoundsAt (now (c .before .before .before .before .args .bounds)) (c .p .given .0 .0)

@@ -1,3 +1,4 @@
+-- Each way out has its law in RangeLaws; what is known of the arguments and of the transaction that was found is named first.
 use Prim.Native.Nat.{ℕ, _<_}
 use mathlib.Core.Path.{_≡_, sym, _∙_}
 use mathlib.Core.Logic.{inl, inr, ⊎-map}
@@ -16,11 +17,6 @@ use Rattle.tracks.proofs.RangeLaws.{range-refused, range-too-long, rang
 use borrow.Author.Needs.{needs}
 use Rattle.tracks.proofs.range.track_range.Statement.{statement}
 use Rattle.tracks.proofs.range.track_range.Tie as tie
-use Rattle.tracks.proofs.range.track_range.Reads as reads
-use Rattle.tracks.proofs.range.track_range.Lts as lts
-use Rattle.places.proofs.finds.find_txn.Reads as find-txn-reads
-use Rattle.tracks.proofs.range.append_range.Reads as append-range-reads
-use Rattle.tracks.proofs.range.check_range.Reads as check-range-reads
 
 -- what is known of the arguments, and of the transaction once it is found
 is-id : (c : tie.Else1) → length (now (c .before .before .before .before .args .id)) ≡ 16

@@ -1,13 +1,10 @@
+-- Turn by turn the key is above all keys before the place, so that it belongs there or further on (`Seek`).
 use Rattle.places.proofs.SeekLaws.{is-less, is-same, is-more}
 use native.Mathlib.Omega.{arith}
 use borrow.Author.Needs.{needs}
 use Rattle.tracks.proofs.FindLaws.{Seek, seek-start, seek-end, seek-here, next-inside, seek-before, seek-there, seek-next}
 use Rattle.tracks.proofs.sets.find_place.Statement.{statement}
 use Rattle.tracks.proofs.sets.find_place.Tie as tie
-use Rattle.tracks.proofs.sets.find_place.Reads as reads
-use Rattle.tracks.proofs.sets.find_place.Lts as lts
-use Rattle.keys.proofs.compare.Reads as compare-reads
-use Rattle.places.proofs.skips.key_past.Reads as key-past-reads
 
 abbrev Inv-loop : tie.InvT-loop
 Inv-loop draft count key place₀ left₀ place left = Seek draft count key place left

@@ -1,3 +1,5 @@
+-- Turn by turn the draft holds the set with the keys of the list before this place, and the totals left are what these have not
+-- taken (`Adding`).
 use Prim.Native.Nat.{_+_, _-_, _≤_}
 use mathlib.Core.Logic.{⊎-map}
 use native.Mathlib.Omega.{arith}
@@ -13,11 +15,6 @@ use Rattle.tracks.proofs.KeyLaws.{part}
 use Rattle.tracks.proofs.InsertLaws.{Adding, add-start, rows-now, end-inside, all-added, never-bad, add-there, full, fits, can-splice, add-put}
 use Rattle.tracks.proofs.sets.insert_all.Statement.{statement}
 use Rattle.tracks.proofs.sets.insert_all.Tie as tie
-use Rattle.tracks.proofs.sets.insert_all.Reads as reads
-use Rattle.tracks.proofs.sets.insert_all.Lts as lts
-use Rattle.fields.proofs.next_key.Reads as next-key-reads
-use Rattle.moves.proofs.splice.Reads as splice-reads
-use Rattle.tracks.proofs.sets.find_place.Reads as find-place-reads
 
 abbrev Inv-loop : tie.InvT-loop
 Inv-loop draft₀ used count list marks bytes used₀ count₀ marks₀ bytes₀ at₀ draft used' count' marks' bytes' at =
