@@ -7,7 +7,6 @@ use mathlib.Core.Option.{none, some}
 use native.Mathlib.Omega.{arith}
 use lib.ListN.{length}
 use Rattle.machine.specs.State.{Bytes, State, withActive, Txn, Ceilings, base, marks, keyBytes, Fits}
-use Rattle.machine.specs.Calls.{holding}
 use Rattle.machine.specs.Sets.{put, find}
 use Rattle.machine.proofs.ListLaws.{all-map}
 use Rattle.machine.proofs.ActiveLaws.{put-known-length}
@@ -15,12 +14,11 @@ use Rattle.layout.specs.Offsets.{idSize, entriesAt, writesAt, markSize}
 use Rattle.layout.specs.Keys.{setForm}
 use Rattle.layout.specs.Records.{txnForm}
 use Rattle.layout.specs.States.{headsOf, setActiveCount, roomSize}
-use Rattle.layout.specs.Rooms.{load}
-use Rattle.layout.specs.Places.{Row, Rows, Here}
+use Rattle.layout.specs.Places.{Here}
 use Rattle.layout.proofs.OpenLaws.{open-txn}
 use Rattle.layout.proofs.RowLaws.{row-end}
 use Rattle.layout.proofs.SizeLaws.{fits-size}
-use Rattle.layout.proofs.LoadLaws.{Held, Changed}
+use Rattle.layout.proofs.LoadLaws.{Changed}
 use Rattle.places.specs.declared.finds.Place.{Place}
 use Rattle.places.specs.Finds.{Found, HereIn, BeforeIn}
 use Rattle.places.proofs.FindLaws.{here-id, here-finds, here-puts, before-finds}

@@ -1,21 +1,20 @@
 -- A part of one transaction's record is replaced: what is laid out after a track.
-use Prim.Native.Nat.{ℕ, suc, _+_, _-_, _≤_, _<_, _^_}
-use mathlib.Core.Path.{_≡_, refl, sym, ap, ap₂, _∙_, subst}
+use Prim.Native.Nat.{ℕ, _+_, _≤_}
+use mathlib.Core.Path.{_≡_, refl, sym, ap, _∙_}
 use mathlib.Core.List.{List, [], _∷_, _++_, append-assoc, append-nil}
 use native.Mathlib.Omega.{arith}
-use lib.ListN.{length, take, drop, length-append, length-drop, take-append-drop}
-use lib.Seq.{paste, slice, length-take-le, take-take, take-at, drop-at, drop-drop}
+use lib.ListN.{length, length-append}
+use lib.Seq.{paste}
 use Rattle.bounds.specs.Ranges.{Range}
-use Rattle.machine.specs.State.{Bytes, State, Txn, Entry, base}
-use Rattle.machine.specs.Serve.{state, entry, addRange}
-use Rattle.codec.specs.Codec.{Codec, writeRun}
+use Rattle.machine.specs.State.{Txn, base}
+use Rattle.machine.specs.Serve.{addRange}
+use Rattle.codec.specs.Codec.{writeRun}
 use Rattle.codec.specs.Formats.{number, raw, bind, via, run}
 use Rattle.codec.proofs.NumberLaws.{length-number}
 use Rattle.moves.specs.Splices.{Spliced, usedAfter}
-use Rattle.moves.proofs.SpliceLaws.{drop-take, later, replaces, untouched}
 use Rattle.layout.specs.Offsets.{numberSize, countSize, entriesAt}
 use Rattle.layout.specs.Keys.{setForm, rangeForm, rangesForm, listForm}
-use Rattle.layout.specs.Records.{headForm, entryForm, txnForm, stamp}
+use Rattle.layout.specs.Records.{txnForm}
 use Rattle.layout.specs.States.{Heads, roomSize}
 use Rattle.layout.proofs.RowLaws.{write-append}
 use Rattle.edits.specs.Laid.{Laid, activeOf}

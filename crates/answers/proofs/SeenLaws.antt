@@ -1,10 +1,8 @@
 -- What a view of a room says, in the terms of the laws about its parts.
-use Prim.Native.Nat.{ℕ, _+_, _≤_, _<_, _^_}
-use mathlib.Core.Path.{_≡_, refl, sym, ap, _∙_}
-use mathlib.Core.List.{List, [], _∷_, _++_}
-use native.Mathlib.Omega.{arith}
-use lib.ListN.{length}
-use Rattle.machine.specs.State.{Bytes, State, Txn, Entry, base}
+use Prim.Native.Nat.{ℕ, _≤_}
+use mathlib.Core.Path.{_≡_, sym}
+use mathlib.Core.List.{List}
+use Rattle.machine.specs.State.{Bytes, base}
 use Rattle.machine.specs.Calls.{Op, on, holding}
 use Rattle.layout.specs.Records.{entryForm, txnForm}
 use Rattle.layout.specs.Offsets.{entriesAt}
@@ -14,7 +12,7 @@ use Rattle.layout.specs.Places.{Row, Rows}
 use Rattle.layout.proofs.LoadLaws.{Held, no-state}
 use Rattle.edits.specs.Laid.{Laid, entriesOf, activeOf}
 use Rattle.places.specs.declared.finds.Place.{Place}
-use Rattle.places.specs.Finds.{Found, PlaceIn, HereIn, BeforeIn}
+use Rattle.places.specs.Finds.{Found, PlaceIn}
 use Rattle.room.specs.declared.View.{View}
 use Rattle.room.specs.Views.{Seen, NoState}
 use Rattle.answers.proofs.SightLaws.{Rowed, sight-load, sight-held, sight-laid, sight-short, sight-rows}

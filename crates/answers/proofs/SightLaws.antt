@@ -1,14 +1,12 @@
 -- Where the parts of a state stand that a room was seen to hold.
-use Prim.Native.Nat.{ℕ, _+_, _≤_, _<_, _^_}
-use mathlib.Core.Path.{_≡_, refl, sym, ap, _∙_}
-use mathlib.Core.Bool.{true}
-use mathlib.Core.List.{List, [], _∷_, _++_}
+use Prim.Native.Nat.{ℕ, _+_, _≤_}
+use mathlib.Core.Path.{_≡_, refl, sym, _∙_}
+use mathlib.Core.List.{List}
 use native.Mathlib.Omega.{arith}
 use lib.ListN.{length, drop, length-append}
-use Rattle.machine.specs.State.{State, Txn, Entry, base}
+use Rattle.machine.specs.State.{State, base}
 use Rattle.machine.specs.Calls.{holding}
-use Rattle.codec.specs.Codec.{Codec, writeRun}
-use Rattle.codec.specs.Formats.{bind, only, via, run}
+use Rattle.codec.specs.Formats.{bind, only}
 use Rattle.codec.specs.Places.{Stands}
 use Rattle.codec.proofs.RecordLaws.{stands-length}
 use Rattle.layout.specs.Keys.{anyOrder}
@@ -16,7 +14,7 @@ use Rattle.layout.specs.Offsets.{entriesAt}
 use Rattle.layout.specs.Records.{headForm, countsForm, countsOf, PartRaw, toContent, ofContent, part-same, partForm, entryForm, txnForm, entriesForm, activeForm, belowId}
 use Rattle.layout.specs.States.{StateRaw, toState, ofState, contentOf, headsOf, plainForm, sound, stateForm, roomSize}
 use Rattle.layout.specs.Rooms.{load}
-use Rattle.layout.specs.Places.{Part, Row, Rows}
+use Rattle.layout.specs.Places.{Part, Row}
 use Rattle.layout.proofs.PartLaws.{both, through, tested, part-end}
 use Rattle.layout.proofs.RowLaws.{run-row, row-end}
 use Rattle.layout.proofs.SizeLaws.{heads-length, machine-size}
@@ -30,10 +28,10 @@ pub record Rowed (s : List ℕ) (st : State) (used : ℕ) : Type 0 where
 
 module _ (s : List ℕ) (st : State) (used : ℕ) (w : Stands (stateForm base) s 0 st used) (i : used ≤ length s) (z : roomSize base ≤ length s) where
   pub sight-load : load base s ≡ holding st
-  sight-load = load-read s z st (drop used s) (w .reads)
+  sight-load = load-read base s z st (drop used s) (w .reads)
 
   pub sight-held : Held s st
-  sight-held = held s st sight-load
+  sight-held = held base s st sight-load
 
   pub sight-used : used ≡ length (plainForm (base .key) .write st)
   unfolding stateForm only

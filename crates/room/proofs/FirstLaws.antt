@@ -1,18 +1,16 @@
 -- The bytes of the published size decide what a longer room holds.
-use Prim.Native.Nat.{ℕ, _+_, _-_, _≤_, _<_}
+use Prim.Native.Nat.{ℕ, _≤_}
 use mathlib.Core.Path.{_≡_, sym, ap, _∙_, subst}
-use mathlib.Core.Logic.{_⊎_, inl, inr}
-use mathlib.Core.List.{List, [], _∷_, _++_, append-assoc}
+use mathlib.Core.Logic.{_⊎_}
+use mathlib.Core.List.{List, _++_, append-assoc}
 use native.Mathlib.Omega.{arith}
-use lib.ListN.{length, take, drop, length-append, take-append-drop}
-use lib.Seq.{length-take-le, take-append-add, drop-append-le}
-use Rattle.machine.specs.State.{State, base}
+use lib.ListN.{length, take, drop, take-append-drop}
+use lib.Seq.{length-take-le, drop-append-le}
+use Rattle.machine.specs.State.{base}
 use Rattle.machine.specs.Calls.{Room, short, broken}
-use Rattle.codec.specs.Codec.{Item, item, cut}
+use Rattle.codec.specs.Codec.{item}
 use Rattle.codec.specs.Formats.{only}
-use Rattle.codec.specs.Places.{Stands}
 use Rattle.layout.specs.States.{plainForm, stateForm, roomSize}
-use Rattle.layout.specs.Rooms.{load}
 use Rattle.layout.proofs.FrontLaws.{load-front}
 use Rattle.room.specs.declared.View.{View}
 use Rattle.room.specs.declared.Opened.{Opened}

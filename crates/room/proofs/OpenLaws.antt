@@ -18,7 +18,7 @@ use Rattle.codec.proofs.RecordLaws.{stands-length}
 use Rattle.layout.specs.Offsets.{entriesAt}
 use Rattle.layout.specs.Keys.{anyOrder}
 use Rattle.layout.specs.Records.{headForm, entryForm, txnForm, entriesForm, activeForm, partForm, belowId}
-use Rattle.layout.specs.States.{plainForm, stateForm, roomSize, sound, inTime, idle, highest, seqOf, startOf}
+use Rattle.layout.specs.States.{toState, plainForm, stateForm, roomSize, sound, inTime, idle, highest, seqOf, startOf}
 use Rattle.layout.specs.Rooms.{load}
 use Rattle.room.specs.declared.tally.Tally.{Tally}
 use Rattle.room.specs.Counts.{anEntry, aTxn, runOf, plus}
@@ -43,7 +43,7 @@ idle-is (t ∷ ts) es = rw (lt-ltb 0 (length (t ∷ ts)) (omega arith))
 
 module _ (last : ℕ) (ts : List Txn) (es : List Entry) where
   abbrev read : State
-  read = record { last = last; active = ts; entries = es }
+  read = toState (last, record { entries = es; active = ts })
 
   sound-by : (n m k b h : ℕ) → n ≡ length es → m ≡ length ts → k ≡ marks read → b ≡ keyBytes read → h ≡ max (highest seqOf es) (highest startOf ts)
       → (leb m (base .active) && leb n (base .entries) && leb k (base .marks) && leb b (base .bytes) && (leb h last && (ltb 0 m || eqb n 0))) ≡ sound base read
@@ -70,12 +70,12 @@ module _ {s : List ℕ} (size : roomSize base ≤ length s) where
     unfolding stateForm plainForm partForm entriesForm only via bind
     no-entries m = no-state (record { reads = rw (h .head .reads, h .counts .reads, m .reads) })
 
-    module _ {t : Tally} (e : Got (runOf anEntry anyOrder (top .entries)) s entriesAt t) where
+    module _ {t : Tally} (e : Got (runOf (anEntry keyLimit) anyOrder (top .entries)) s entriesAt t) where
       pub no-active : Missing (run (txnForm keyLimit) belowId (top .active)) s (t .end) → NoState s
       unfolding stateForm plainForm partForm entriesForm activeForm only via bind
       no-active m = no-state (record { reads = rw (h .head .reads, h .counts .reads, e .part .stands .reads, m .reads) })
 
-      module _ {u : Tally} (a : Got (runOf aTxn belowId (top .active)) s (t .end) u) where
+      module _ {u : Tally} (a : Got (runOf (aTxn keyLimit) belowId (top .active)) s (t .end) u) where
         abbrev st : State
         st = read (top .last) (a .val) (e .val)
 

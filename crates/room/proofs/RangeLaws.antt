@@ -1,4 +1,4 @@
--- Bounds and ranges.
+-- What a walk over a bound and over a range finds, for any key limit.
 use Prim.Native.Nat.{ℕ, _+_, _-_, _≤_, _<_}
 use mathlib.Core.Path.{_≡_, refl, sym, ap, ap₂, _∙_}
 use mathlib.Core.Bool.{Bool, true, false}
@@ -7,7 +7,6 @@ use native.Mathlib.Omega.{arith}
 use borrow.Author.Tests.{ne-eqb}
 use lib.ListN.{length, drop, getD, length-drop}
 use lib.Seq.{length-take-le}
-use Rattle.keys.specs.Limit.{keyLimit}
 use Rattle.kinds.specs.Bounds.{included, excluded, bound}
 use Rattle.kinds.specs.declared.kind.Kind.{Kind}
 use Rattle.kinds.specs.declared.kind.Kind.the-variants.{Unbounded, Included, Excluded}
@@ -30,21 +29,21 @@ use Rattle.room.proofs.SetLaws.{number-short, key-size, key-labelled, l
 
 -- ---- bounds
 
-module _ (s : List ℕ) (at : ℕ) where
-  pub bound-short : length s - at < tagSize → Missing (boundForm keyLimit) s at
+module _ (limit : ℕ) (s : List ℕ) (at : ℕ) where
+  pub bound-short : length s - at < tagSize → Missing (boundForm limit) s at
   unfolding boundForm via bind only
   bound-short h = record { reads = rw (number-short tagSize s at h) }
 
   tag-stands : (tag : ℕ) → at + tagSize ≤ length s → ((i : ℕ) → getD s i 0 < 256) → getD s at 0 ≡ tag → Stands (number tagSize) s at tag (at + tagSize)
   tag-stands tag h small e = stands-number tagSize s at tag h small (sym e)
 
-  pub tag-unknown : (tag : ℕ) → at + tagSize ≤ length s → ((i : ℕ) → getD s i 0 < 256) → getD s at 0 ≡ tag → (tag ≡ 0x10 → ⊥) → (tag ≡ 0x11 → ⊥) → (tag ≡ 0x12 → ⊥) → Missing (boundForm keyLimit) s at
+  pub tag-unknown : (tag : ℕ) → at + tagSize ≤ length s → ((i : ℕ) → getD s i 0 < 256) → getD s at 0 ≡ tag → (tag ≡ 0x10 → ⊥) → (tag ≡ 0x11 → ⊥) → (tag ≡ 0x12 → ⊥) → Missing (boundForm limit) s at
   unfolding boundForm via bind only
   tag-unknown tag h small e a b c = record { reads = rw (tag-stands tag h small e .reads, ne-eqb tag 0x10 a, ne-eqb tag 0x11 b, ne-eqb tag 0x12 c) }
 
   -- the bound of a kind whose key was walked
   module _ (h : at + tagSize ≤ length s) (small : (i : ℕ) → getD s i 0 < 256) where
-    pub unbounded-ends : getD s at 0 ≡ 0x10 → (w : Walked) → Walks (aKey 0) s (at + tagSize) w → BoundIs s at (asBound Unbounded w)
+    pub unbounded-ends : getD s at 0 ≡ 0x10 → (w : Walked) → Walks (aKey 0) s (at + tagSize) w → BoundIs limit s at (asBound Unbounded w)
     unfolding boundForm via bind only
     unbounded-ends e (Ends t) g =
         let z = key-size (g .part) in
@@ -55,19 +54,19 @@ module _ (s : List ℕ) (at : ℕ) where
         }
     unbounded-ends e Cut m = record { reads = rw (tag-stands 0x10 h small e .reads, m .reads) }
 
-    module _ {t : Tally} (g : Got (aKey keyLimit) s (at + tagSize) t) where
+    module _ {t : Tally} (g : Got (aKey limit) s (at + tagSize) t) where
       key-is : g .val ≡ between s (at + boundKeyAt) (t .end)
       key-is =
           let j : at + tagSize + lengthSize ≡ at + boundKeyAt = omega arith in
-          key-labelled keyLimit s (at + tagSize) (t .end) (g .val) (g .part) .1 ∙ ap (λ (p : ℕ). between s p (t .end)) j
+          key-labelled limit s (at + tagSize) (t .end) (g .val) (g .part) .1 ∙ ap (λ (p : ℕ). between s p (t .end)) j
 
       key-ends : (at + boundKeyAt ≤ t .end) × (length (between s (at + boundKeyAt) (t .end)) ≡ t .end - (at + boundKeyAt))
       key-ends =
-          let f : at + boundKeyAt ≤ t .end = omega (arith, key-labelled keyLimit s (at + tagSize) (t .end) (g .val) (g .part) .0) in
+          let f : at + boundKeyAt ≤ t .end = omega (arith, key-labelled limit s (at + tagSize) (t .end) (g .val) (g .part) .0) in
           let i : t .end ≤ length s = g .part .inside in
           (f, length-take-le (t .end - (at + boundKeyAt)) (drop (at + boundKeyAt) s) (rw (length-drop (at + boundKeyAt) s) (omega arith)))
 
-    pub included-ends : getD s at 0 ≡ 0x11 → (w : Walked) → Walks (aKey keyLimit) s (at + tagSize) w → BoundIs s at (asBound Included w)
+    pub included-ends : getD s at 0 ≡ 0x11 → (w : Walked) → Walks (aKey limit) s (at + tagSize) w → BoundIs limit s at (asBound Included w)
     unfolding boundForm via bind only
     included-ends e (Ends t) g = record {
       part = record {
@@ -80,7 +79,7 @@ module _ (s : List ℕ) (at : ℕ) where
     }
     included-ends e Cut m = record { reads = rw (tag-stands 0x11 h small e .reads, m .reads) }
 
-    pub excluded-ends : getD s at 0 ≡ 0x12 → (w : Walked) → Walks (aKey keyLimit) s (at + tagSize) w → BoundIs s at (asBound Excluded w)
+    pub excluded-ends : getD s at 0 ≡ 0x12 → (w : Walked) → Walks (aKey limit) s (at + tagSize) w → BoundIs limit s at (asBound Excluded w)
     unfolding boundForm via bind only
     excluded-ends e (Ends t) g = record {
       part = record {
@@ -95,27 +94,27 @@ module _ (s : List ℕ) (at : ℕ) where
 
 -- ---- ranges
 
-pub no-start : {s : List ℕ} {at : ℕ} → Missing (boundForm keyLimit) s at → Missing (rangeForm keyLimit) s at
+pub no-start : (limit : ℕ) {s : List ℕ} {at : ℕ} → Missing (boundForm limit) s at → Missing (rangeForm limit) s at
 unfolding rangeForm pairForm only via bind
-no-start h = record { reads = rw (h .reads) }
+no-start limit h = record { reads = rw (h .reads) }
 
-module _ {s : List ℕ} {at m : ℕ} {k : Kind} (a : BoundEnds s at k m) where
-  pub no-end : Missing (boundForm keyLimit) s m → Missing (rangeForm keyLimit) s at
+module _ (limit : ℕ) {s : List ℕ} {at m : ℕ} {k : Kind} (a : BoundEnds limit s at k m) where
+  pub no-end : Missing (boundForm limit) s m → Missing (rangeForm limit) s at
   unfolding rangeForm pairForm only via bind
   no-end h = record { reads = rw (a .part .stands .reads, h .reads) }
 
-  module _ {e : ℕ} {l : Kind} (b : BoundEnds s m l e) where
+  module _ {e : ℕ} {l : Kind} (b : BoundEnds limit s m l e) where
     abbrev pub found : Range
     found = range (bound k (between s (at + boundKeyAt) m)) (bound l (between s (m + boundKeyAt) e))
 
     pub judged : (x : ComparableRange) (t : Bool) → (x .start ≡ k) × (x .end ≡ l) → notEmpty (rangeOf x (between s (at + boundKeyAt) m) (between s (m + boundKeyAt) e)) ≡ t → notEmpty found ≡ t
     judged x t n is = sym (ap₂ (λ (p q : Kind). notEmptyPair (bound p (between s (at + boundKeyAt) m)) (bound q (between s (m + boundKeyAt) e))) (n .0) (n .1)) ∙ is
 
-    pub range-empty : notEmpty found ≡ false → Missing (rangeForm keyLimit) s at
+    pub range-empty : notEmpty found ≡ false → Missing (rangeForm limit) s at
     unfolding rangeForm pairForm only via bind
     range-empty h = record { reads = rw (a .part .stands .reads, b .part .stands .reads, h) }
 
-    pub range-got : notEmpty found ≡ true → Got aRange s at (record { end = e; marks = 1; bytes = m - (at + boundKeyAt) + (e - (m + boundKeyAt)); high = 0 })
+    pub range-got : notEmpty found ≡ true → Got (aRange limit) s at (record { end = e; marks = 1; bytes = m - (at + boundKeyAt) + (e - (m + boundKeyAt)); high = 0 })
     unfolding rangeForm pairForm only via bind
     range-got h = record {
       val = found;
@@ -126,11 +125,11 @@ module _ {s : List ℕ} {at m : ℕ} {k : Kind} (a : BoundEnds s at k m) where
       fits = omega (arith, a .far, b .far);
     }
 
-module _ (s : List ℕ) (at : ℕ) where
-  pub ranges-short : length s - at < countSize → Missing (rangesForm keyLimit) s at
+module _ (limit : ℕ) (s : List ℕ) (at : ℕ) where
+  pub ranges-short : length s - at < countSize → Missing (rangesForm limit) s at
   unfolding rangesForm
-  ranges-short h = list-short (rangeForm keyLimit) anyOrder s at h
+  ranges-short h = list-short (rangeForm limit) anyOrder s at h
 
-  pub ranges-ends : (n : ℕ) → Stands (number countSize) s at n (at + countSize) → (w : Walked) → Walks (runOf aRange anyOrder n) s (at + countSize) w → Walks someRanges s at w
+  pub ranges-ends : (n : ℕ) → Stands (number countSize) s at n (at + countSize) → (w : Walked) → Walks (runOf (aRange limit) anyOrder n) s (at + countSize) w → Walks (someRanges limit) s at w
   unfolding rangesForm
-  ranges-ends n r w g = list-ends (rangeForm keyLimit) anyOrder s at rangeBytes n r w g
+  ranges-ends n r w g = list-ends (rangeForm limit) anyOrder s at rangeBytes n r w g

@@ -7,7 +7,6 @@ use native.Mathlib.Omega.{arith}
 use borrow.Author.Tests.{leb-true, le-leb, lt-leb}
 use lib.ListN.{length, take, drop, length-append, length-drop}
 use lib.Seq.{drop-drop, length-take-le, take-append-seam, drop-append-seam}
-use Rattle.keys.specs.Limit.{keyLimit}
 use Rattle.machine.specs.Lists.{sum}
 use Rattle.machine.specs.State.{Bytes}
 use Rattle.machine.proofs.ListLaws.{length-sum}
@@ -116,11 +115,11 @@ module _ {A : Type 0} (C : Codec A) (before : A → A → Bool) (s : List ℕ) (
   }
   list-ends bytes n r Cut m = record { reads = rw (r .reads, m .reads) }
 
-module _ (s : List ℕ) (at : ℕ) where
-  pub set-short : length s - at < countSize → Missing (setForm keyLimit) s at
+module _ (m : ℕ) (s : List ℕ) (at : ℕ) where
+  pub set-short : length s - at < countSize → Missing (setForm m) s at
   unfolding setForm
-  set-short h = list-short (keyForm keyLimit) below s at h
+  set-short h = list-short (keyForm m) below s at h
 
-  pub set-ends : (n : ℕ) → Stands (number countSize) s at n (at + countSize) → (w : Walked) → Walks (runOf (aKey keyLimit) below n) s (at + countSize) w → Walks aSet s at w
+  pub set-ends : (n : ℕ) → Stands (number countSize) s at n (at + countSize) → (w : Walked) → Walks (runOf (aKey m) below n) s (at + countSize) w → Walks (aSet m) s at w
   unfolding setForm
-  set-ends n r w g = list-ends (keyForm keyLimit) below s at length n r w g
+  set-ends n r w g = list-ends (keyForm m) below s at length n r w g

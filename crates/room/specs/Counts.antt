@@ -1,9 +1,9 @@
--- What is counted of the values of a format: marks, key bytes and the highest number, which are the machine's totals.
+-- What is counted of the values of a format: marks, key bytes and the highest number, which are the machine's totals. The key limit is
+-- any number m.
 use Prim.Native.Nat.{ℕ, _+_, max}
 use mathlib.Core.Bool.{Bool}
 use mathlib.Core.List.{List}
 use lib.ListN.{length}
-use Rattle.keys.specs.Limit.{keyLimit}
 use Rattle.bounds.specs.Ranges.{Range}
 use Rattle.machine.specs.Lists.{sum}
 use Rattle.machine.specs.State.{Bytes, Txn, Entry, txnMarks, entryMarks, setBytes, rangeBytes, txnBytes, entryBytes}
@@ -24,20 +24,20 @@ pub record Counted (A : Type 0) : Type 1 where
 abbrev pub aKey : ℕ → Counted Bytes
 aKey m = record { form = keyForm m; marks = λ k. 1; bytes = length; high = λ k. 0 }
 
-abbrev pub aSet : Counted (List Bytes)
-aSet = record { form = setForm keyLimit; marks = length; bytes = setBytes; high = λ ks. 0 }
+abbrev pub aSet : ℕ → Counted (List Bytes)
+aSet m = record { form = setForm m; marks = length; bytes = setBytes; high = λ ks. 0 }
 
-abbrev pub aRange : Counted Range
-aRange = record { form = rangeForm keyLimit; marks = λ r. 1; bytes = rangeBytes; high = λ r. 0 }
+abbrev pub aRange : ℕ → Counted Range
+aRange m = record { form = rangeForm m; marks = λ r. 1; bytes = rangeBytes; high = λ r. 0 }
 
-abbrev pub someRanges : Counted (List Range)
-someRanges = record { form = rangesForm keyLimit; marks = length; bytes = sum rangeBytes; high = λ rs. 0 }
+abbrev pub someRanges : ℕ → Counted (List Range)
+someRanges m = record { form = rangesForm m; marks = length; bytes = sum rangeBytes; high = λ rs. 0 }
 
-abbrev pub anEntry : Counted Entry
-anEntry = record { form = entryForm keyLimit; marks = entryMarks; bytes = entryBytes; high = seqOf }
+abbrev pub anEntry : ℕ → Counted Entry
+anEntry m = record { form = entryForm m; marks = entryMarks; bytes = entryBytes; high = seqOf }
 
-abbrev pub aTxn : Counted Txn
-aTxn = record { form = txnForm keyLimit; marks = txnMarks; bytes = txnBytes; high = startOf }
+abbrev pub aTxn : ℕ → Counted Txn
+aTxn m = record { form = txnForm m; marks = txnMarks; bytes = txnBytes; high = startOf }
 
 -- n of them, one after another
 abbrev pub runOf : {A : Type 0} → Counted A → (A → A → Bool) → ℕ → Counted (List A)

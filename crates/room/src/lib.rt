@@ -2,6 +2,7 @@
 ghost use mathlib.Core.Path.{_≡_};
 ghost use Prim.Native.Nat.{_+_, _≤_};
 ghost use lib.ListN.{length};
+ghost use Rattle.keys.specs.Limit.{keyLimit};
 ghost use Rattle.room.specs.Walks.{Walks, Apart};
 ghost use Rattle.room.specs.Counts.{anEntry, aTxn, runOf};
 ghost use Rattle.machine.specs.State.{base};
@@ -80,7 +81,7 @@ fn head(room: &[u8]) -> Headed
 // Where n entries end.
 fn entries_end(room: &[u8], at: usize, n: usize) -> Walked
     requires { ⌜ at ≤ length (now room) ⌝ }
-    ensures { λ r. ⌜ Walks (runOf anEntry anyOrder n) (now (room .entry)) at r ⌝ }
+    ensures { λ r. ⌜ Walks (runOf (anEntry keyLimit) anyOrder n) (now (room .entry)) at r ⌝ }
 {
     let mut t = Tally::start(at);
     let mut left = n;
@@ -112,7 +113,7 @@ fn id_follows(room: &[u8], p: usize, e: usize) -> bool
 // Where n transactions end, each id above the one before.
 fn active_end(room: &[u8], at: usize, n: usize) -> Walked
     requires { ⌜ at ≤ length (now room) ⌝ }
-    ensures { λ r. ⌜ Walks (runOf aTxn belowId n) (now (room .entry)) at r ⌝ }
+    ensures { λ r. ⌜ Walks (runOf (aTxn keyLimit) belowId n) (now (room .entry)) at r ⌝ }
 {
     let mut t = Tally::start(at);
     let mut p = at;

@@ -1,10 +1,12 @@
 ghost use mathlib.Core.Path.{_≡_};
 ghost use Prim.Native.Nat.{_+_, _≤_};
 ghost use lib.ListN.{length};
+ghost use Rattle.keys.specs.Limit.{keyLimit};
 ghost use Rattle.layout.specs.Keys.{anyOrder};
 ghost use Rattle.room.specs.Counts.{aRange, someRanges, runOf};
 ghost use Rattle.room.specs.Walks.{Walks};
 ghost use Rattle.room.specs.BoundWalks.{BoundIs, asBound};
+use crate::set::key_end;
 use crate::tally::Tally;
 use crate::tally::Walked;
 use bounds::comparable_range::ComparableRange;
@@ -35,26 +37,20 @@ fn bound_of(kind: Kind, key: Walked) -> BoundAt
 
 fn bound_end(room: &[u8], at: usize) -> BoundAt
     requires { ⌜ at ≤ length (now room) ⌝ }
-    ensures { λ r. ⌜ BoundIs (now (room .entry)) at r ⌝ }
+    ensures { λ r. ⌜ BoundIs keyLimit (now (room .entry)) at r ⌝ }
 {
     if room.len() - at < TAG {
         return BoundAt::NoBound;
     }
     let tag = room[at];
     if tag == UNBOUNDED {
-        return bound_of(Kind::Unbounded, crate::set::key_end(room, at + TAG, 0));
+        return bound_of(Kind::Unbounded, key_end(room, at + TAG, 0));
     }
     if tag == INCLUDED {
-        return bound_of(
-            Kind::Included,
-            crate::set::key_end(room, at + TAG, KEY_LIMIT),
-        );
+        return bound_of(Kind::Included, key_end(room, at + TAG, KEY_LIMIT));
     }
     if tag == EXCLUDED {
-        return bound_of(
-            Kind::Excluded,
-            crate::set::key_end(room, at + TAG, KEY_LIMIT),
-        );
+        return bound_of(Kind::Excluded, key_end(room, at + TAG, KEY_LIMIT));
     }
     BoundAt::NoBound
 }
@@ -62,7 +58,7 @@ fn bound_end(room: &[u8], at: usize) -> BoundAt
 // Where the range at a place ends, which is not empty.
 fn range_end(room: &[u8], at: usize) -> Walked
     requires { ⌜ at ≤ length (now room) ⌝ }
-    ensures { λ r. ⌜ Walks aRange (now (room .entry)) at r ⌝ }
+    ensures { λ r. ⌜ Walks (aRange keyLimit) (now (room .entry)) at r ⌝ }
 {
     match bound_end(room, at) {
         BoundAt::NoBound => Walked::Cut,
@@ -90,7 +86,7 @@ fn range_end(room: &[u8], at: usize) -> Walked
 // Where n ranges end.
 fn run_end(room: &[u8], at: usize, n: usize) -> Walked
     requires { ⌜ at ≤ length (now room) ⌝ }
-    ensures { λ r. ⌜ Walks (runOf aRange anyOrder n) (now (room .entry)) at r ⌝ }
+    ensures { λ r. ⌜ Walks (runOf (aRange keyLimit) anyOrder n) (now (room .entry)) at r ⌝ }
 {
     let mut t = Tally::start(at);
     let mut left = n;
@@ -109,7 +105,7 @@ fn run_end(room: &[u8], at: usize, n: usize) -> Walked
 // Where the list of ranges at a place ends.
 pub fn ranges_end(room: &[u8], at: usize) -> Walked
     requires { ⌜ at ≤ length (now room) ⌝ }
-    ensures { λ r. ⌜ Walks someRanges (now (room .entry)) at r ⌝ }
+    ensures { λ r. ⌜ Walks (someRanges keyLimit) (now (room .entry)) at r ⌝ }
 {
     if room.len() - at < COUNT {
         return Walked::Cut;

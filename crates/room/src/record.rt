@@ -1,5 +1,6 @@
 ghost use Prim.Native.Nat.{_+_, _≤_};
 ghost use lib.ListN.{length};
+ghost use Rattle.keys.specs.Limit.{keyLimit};
 ghost use Rattle.room.specs.Counts.{anEntry, aTxn};
 ghost use Rattle.room.specs.Walks.{Walks};
 use crate::tally::Tally;
@@ -11,7 +12,7 @@ use layout::WRITES;
 // Where the entry at a place ends.
 pub fn entry_end(room: &[u8], at: usize) -> Walked
     requires { ⌜ at ≤ length (now room) ⌝ }
-    ensures { λ r. ⌜ Walks anEntry (now (room .entry)) at r ⌝ }
+    ensures { λ r. ⌜ Walks (anEntry keyLimit) (now (room .entry)) at r ⌝ }
 {
     if room.len() - at < KEYS {
         return Walked::Cut;
@@ -31,7 +32,7 @@ pub fn entry_end(room: &[u8], at: usize) -> Walked
 // Where the transaction at a place ends.
 pub fn txn_end(room: &[u8], at: usize) -> Walked
     requires { ⌜ at ≤ length (now room) ⌝ }
-    ensures { λ r. ⌜ Walks aTxn (now (room .entry)) at r ⌝ }
+    ensures { λ r. ⌜ Walks (aTxn keyLimit) (now (room .entry)) at r ⌝ }
 {
     if room.len() - at < WRITES {
         return Walked::Cut;

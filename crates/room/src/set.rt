@@ -76,7 +76,7 @@ fn keys_end(room: &[u8], at: usize, n: usize) -> Walked
 // Where the set at a place ends.
 pub fn set_end(room: &[u8], at: usize) -> Walked
     requires { ⌜ at ≤ length (now room) ⌝ }
-    ensures { λ r. ⌜ Walks aSet (now (room .entry)) at r ⌝ }
+    ensures { λ r. ⌜ Walks (aSet keyLimit) (now (room .entry)) at r ⌝ }
 {
     if room.len() - at < COUNT {
         return Walked::Cut;

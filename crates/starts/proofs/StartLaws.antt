@@ -1,13 +1,13 @@
 -- Each way that fresh, begin, check and minimum end.
-use Prim.Native.Nat.{ℕ, suc, _+_, _≤_, _<_, _^_}
+use Prim.Native.Nat.{ℕ, _+_, _≤_, _<_, _^_}
 use mathlib.Core.Path.{_≡_, refl, sym, ap, _∙_, subst}
-use mathlib.Core.Bool.{Bool, true, false}
-use mathlib.Core.List.{List, [], _∷_, _++_}
+use mathlib.Core.Bool.{Bool}
+use mathlib.Core.List.{List, [], _∷_}
 use native.Mathlib.Omega.{arith}
 use mathlib.Core.Option.{none}
 use lib.ListN.{length, drop, length-append}
 use lib.Seq.{paste}
-use Rattle.machine.specs.State.{Bytes, State, Txn, Entry, base, MachineState, TxnOk, Fits}
+use Rattle.machine.specs.State.{Bytes, Txn, base, TxnOk, Fits}
 use Rattle.machine.specs.Lists.{sum, All}
 use Rattle.machine.specs.Sets.{put, find, leastOf, conflict}
 use Rattle.machine.specs.Calls.{on, begin, check, minimum, malformed, again, full, fresh}
@@ -21,10 +21,11 @@ use Rattle.layout.specs.Offsets.{numberSize, countSize, idSize, lastAt, partAt,
 use Rattle.layout.specs.Records.{txnForm}
 use Rattle.layout.specs.States.{headsOf, setActiveCount, roomSize}
 use Rattle.layout.specs.Rooms.{Served}
-use Rattle.layout.specs.Places.{Row, Part, Here}
+use Rattle.layout.specs.Places.{Here}
 use Rattle.layout.proofs.RowLaws.{row-end, row-inside, write-append}
 use Rattle.layout.proofs.SizeLaws.{txn-length, ids-long, fits-size, state-length}
-use Rattle.layout.proofs.LoadLaws.{Changed, refuse, look, look-absent, change, make-fresh, fresh-short}
+use Rattle.layout.proofs.HoldLaws.{base-small}
+use Rattle.layout.proofs.LoadLaws.{refuse, look, look-absent, change, make-fresh}
 use Rattle.edits.specs.Laid.{entriesOf, activeOf}
 use Rattle.edits.specs.Edits.{Freshened}
 use Rattle.edits.proofs.LaidLaws.{relaid, laid-used, laid-active, laid-end, laid-number}
@@ -37,10 +38,10 @@ use Rattle.search.specs.Search.{Searched}
 use Rattle.room.specs.declared.View.{View}
 use Rattle.room.specs.Views.{Seen}
 use Rattle.answers.proofs.StateLaws.{none-left, begun, begin-malformed, begin-again, begin-full, begin-fits, begin-done, check-malformed, check-absent, check-done, minimum-nobody, minimum-done}
-use Rattle.answers.proofs.SeenLaws.{seen-load, seen-held, seen-laid, seen-short, entry-row, active-row, found-in}
+use Rattle.answers.proofs.SeenLaws.{seen-load, seen-held, seen-laid, entry-row, active-row, found-in}
 
 pub fresh-made : {s s' : List ℕ} {n : ℕ} → roomSize base ≤ length s → Freshened s n s' → n < 256 ^ 8 → Served s (fresh n) 0 n s'
-fresh-made {s} {s'} {n} h e l = make-fresh s s' n h (fresh-changed h e l)
+fresh-made {s} {s'} {n} h e l = make-fresh base base-small s s' n h (fresh-changed h e l)
 
 new-length : (id : Bytes) (n : ℕ) → length id ≡ idSize → length (txnForm (base .key) .write (newTxn id n)) ≡ txnSize
 unfolding sum

@@ -1,8 +1,11 @@
+-- Invariant: of the n transactions those before t.end are read, ascending by id and counted, and the last of them stands at p (`Ordered`).
 use mathlib.Core.Path.{sym, _∙_}
 use native.Mathlib.Omega.{arith}
 use borrow.Author.Tests.{not-true, not-false}
 use borrow.Author.Needs.{needs}
 use denote.Ref.{now}
+use Rattle.layout.specs.Offsets.{idSize}
+use Rattle.keys.specs.Limit.{keyLimit}
 use Rattle.room.specs.Walks.{Got}
 use Rattle.room.specs.Counts.{aTxn}
 use Rattle.room.proofs.GoingLaws.{Ordered, ascending, ordered-start, ordered-apart, ordered-next, ordered-unfit, ordered-cut, ordered-end, going-join}
@@ -11,20 +14,20 @@ use Rattle.room.proofs.active_end.Statement.{statement}
 use Rattle.room.proofs.active_end.Tie as tie
 
 abbrev Inv-loop : tie.InvT-loop
-Inv-loop room at n t₀ p₀ left₀ t p left = Ordered aTxn idOf idAt 16 room at n t p left
+Inv-loop room at n t₀ p₀ left₀ t p left = Ordered (aTxn keyLimit) idOf idAt idSize room at n t p left
 
 abbrev μ-loop : tie.MeasureT-loop
 μ-loop room at n t₀ p₀ left₀ t p left = left
 
 -- the record that was read in this turn
-seen : (c : tie.After-u Inv-loop μ-loop) → Got aTxn (now (c .before .before .before .before .before .before .before .args .room)) (c .before .before .before .before .loop .t .end) (c .u .given .0 .0)
+seen : (c : tie.After-u Inv-loop μ-loop) → Got (aTxn keyLimit) (now (c .before .before .before .before .before .before .before .args .room)) (c .before .before .before .before .loop .t .end) (c .u .given .0 .0)
 seen c = rw (c .u .given .1) at (c .before .before .txn-end .ensures)
 
 start-requires : tie.Need-start-requires Inv-loop μ-loop
 start-requires c κs = search needs
 
 loop-holds : tie.Need-loop-holds Inv-loop μ-loop
-loop-holds c = ordered-start aTxn idOf idAt 16 _ _ _ (omega arith) _ (c .start .ensures)
+loop-holds c = ordered-start (aTxn keyLimit) idOf idAt idSize _ _ _ (omega arith) _ (c .start .ensures)
 
 txn-end-requires : tie.Need-txn-end-requires Inv-loop μ-loop
 txn-end-requires c κs = c .before .loop .inv .going .inside
@@ -33,13 +36,13 @@ enum-known-u : tie.Need-enum-known-u Inv-loop μ-loop
 enum-known-u c = search needs
 
 id-follows-requires : tie.Need-id-follows-requires Inv-loop μ-loop
-id-follows-requires c κs = (ordered-apart aTxn idOf idAt 16 (c .before .before .before .before .before .loop .inv), omega (arith, txn-labelled _ _ _ _ (seen (c .before) .part) .0, seen (c .before) .part .inside))
+id-follows-requires c κs = (ordered-apart (aTxn keyLimit) idOf idAt idSize (c .before .before .before .before .before .loop .inv), omega (arith, txn-labelled _ _ _ _ _ (seen (c .before) .part) .0, seen (c .before) .part .inside))
 
 returns : tie.Need-returns Inv-loop μ-loop
-returns c = ordered-unfit aTxn idOf idAt 16 (c .before .before .before .before .before .before .before .loop .inv) (omega arith) (omega arith) txn-labelled (seen (c .before .before .before)) (sym (c .before .id-follows .ensures) ∙ not-true _ (c .if1 .taken))
+returns c = ordered-unfit (aTxn keyLimit) idOf idAt idSize (c .before .before .before .before .before .before .before .loop .inv) (omega arith) (omega arith) (txn-labelled keyLimit) (seen (c .before .before .before)) (sym (c .before .id-follows .ensures) ∙ not-true _ (c .if1 .taken))
 
 joined-requires : tie.Need-joined-requires Inv-loop μ-loop
-joined-requires c κs = going-join aTxn (ascending aTxn idOf idAt 16) (c .before .before .before .before .before .before .before .loop .inv .going) (seen (c .before .before .before))
+joined-requires c κs = going-join (aTxn keyLimit) (ascending (aTxn keyLimit) idOf idAt idSize) (c .before .before .before .before .before .before .before .loop .inv .going) (seen (c .before .before .before))
 
 sub-left : tie.Need-sub-left Inv-loop μ-loop
 sub-left c = search needs
@@ -48,16 +51,16 @@ loop-less : tie.Need-loop-less Inv-loop μ-loop
 loop-less c = search needs
 
 loop-again : tie.Need-loop-again Inv-loop μ-loop
-loop-again c = ordered-next aTxn idOf idAt 16 (c .before .before .before .before .before .before .before .before .loop .inv) (omega arith) (omega arith) txn-labelled (seen (c .before .before .before .before)) (sym (c .before .before .id-follows .ensures) ∙ not-false _ (c .before .if1 .left)) _ (c .joined .ensures)
+loop-again c = ordered-next (aTxn keyLimit) idOf idAt idSize (c .before .before .before .before .before .before .before .before .loop .inv) (omega arith) (omega arith) (txn-labelled keyLimit) (seen (c .before .before .before .before)) (sym (c .before .before .id-follows .ensures) ∙ not-false _ (c .before .if1 .left)) _ (c .joined .ensures)
 
 enum-told : tie.Need-enum-told Inv-loop μ-loop
 enum-told c = search needs
 
 returns-2 : tie.Need-returns-2 Inv-loop μ-loop
-returns-2 c = ordered-cut aTxn idOf idAt 16 (c .before .before .before .before .loop .inv) (omega arith) (rw (c .enum-told .given .1) at (c .before .before .txn-end .ensures))
+returns-2 c = ordered-cut (aTxn keyLimit) idOf idAt idSize (c .before .before .before .before .loop .inv) (omega arith) (rw (c .enum-told .given .1) at (c .before .before .txn-end .ensures))
 
 returns-3 : tie.Need-returns-3 Inv-loop μ-loop
-returns-3 c = ordered-end aTxn idOf idAt 16 (c .before .loop .inv) (omega arith)
+returns-3 c = ordered-end (aTxn keyLimit) idOf idAt idSize (c .before .loop .inv) (omega arith)
 
 pub active-end-spec : {M : Type 1} → statement M
 active-end-spec =

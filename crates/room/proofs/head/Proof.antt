@@ -1,3 +1,4 @@
+-- The stamp decides; the other numbers are read where they stand.
 use native.Mathlib.Omega.{arith}
 use borrow.Author.Needs.{needs}
 use Rattle.room.proofs.HeadLaws.{head-other, head-is}

@@ -1,3 +1,4 @@
+-- The answer of the comparison is that of the ids; the first id follows nothing.
 use native.Mathlib.Omega.{arith}
 use borrow.Author.Tests.{eq-eqb}
 use borrow.Author.Needs.{needs}

@@ -1,3 +1,4 @@
+-- The bytes of the published size decide what the whole room holds.
 use denote.Ref.{now}
 use native.Mathlib.Omega.{arith}
 use Rattle.room.proofs.FirstLaws.{opening-more}
@@ -5,31 +6,22 @@ use Rattle.room.proofs.OpenLaws.{too-small}
 use borrow.Author.Needs.{needs}
 use Rattle.room.proofs.open.Statement.{statement}
 use Rattle.room.proofs.open.Tie as tie
-use Rattle.room.proofs.open.Reads as reads
-use Rattle.room.proofs.open.Lts as lts
-use Rattle.room.proofs.open_record.Reads as open-record-reads
 
--- src/lib.rt:161:9
 returns : tie.Need-returns
 returns c = too-small (c .if1 .taken)
 
--- src/lib.rt:163:17
 sub-open-record : tie.Need-sub-open-record
 sub-open-record c = search needs
 
--- src/lib.rt:163:17
 part-open-record-start : tie.Need-part-open-record-start
 part-open-record-start c = search needs
 
--- src/lib.rt:163:17
 part-open-record-end : tie.Need-part-open-record-end
 part-open-record-end c = search needs
 
--- src/lib.rt:163:5
 open-record-requires : tie.Need-open-record-requires
 open-record-requires c κs = search needs
 
--- src/lib.rt:157:1
 returns-2 : tie.Need-returns-2
 returns-2 c = opening-more (now (c .before .before .before .before .args .room)) (omega arith) (c .open-record .result) (c .open-record .ensures)
 

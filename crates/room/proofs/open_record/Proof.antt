@@ -1,6 +1,8 @@
+-- The head, the entries and the active ones are read one after another: the first that is missing, or totals that are not sound, make it no state.
 use mathlib.Core.Path.{sym, _∙_}
 use borrow.Author.Needs.{needs}
 use denote.Ref.{now}
+use Rattle.keys.specs.Limit.{keyLimit}
 use Rattle.layout.specs.Offsets.{entriesAt}
 use Rattle.layout.specs.Records.{belowId}
 use Rattle.layout.specs.Keys.{anyOrder}
@@ -16,10 +18,10 @@ use Rattle.room.proofs.open_record.Tie as tie
 headed : (c : tie.After-top) → HeadIs (now (c .before .before .before .before .args .room)) (c .top .given .0 .0)
 headed c = rw (c .top .given .1) at (c .before .before .head .ensures)
 
-entered : (c : tie.After-t) → Got (runOf anEntry anyOrder (c .before .before .before .before .top .given .0 .0 .entries)) (now (c .before .before .before .before .before .before .before .before .args .room)) entriesAt (c .t .given .0 .0)
+entered : (c : tie.After-t) → Got (runOf (anEntry keyLimit) anyOrder (c .before .before .before .before .top .given .0 .0 .entries)) (now (c .before .before .before .before .before .before .before .before .args .room)) entriesAt (c .t .given .0 .0)
 entered c = rw (c .t .given .1) at (c .before .before .entries-end .ensures)
 
-begun : (c : tie.After-u) → Got (runOf aTxn belowId (c .before .before .before .before .before .before .before .before .top .given .0 .0 .active)) (now (c .before .before .before .before .before .before .before .before .before .before .before .before .args .room)) (c .before .before .before .before .t .given .0 .0 .end) (c .u .given .0 .0)
+begun : (c : tie.After-u) → Got (runOf (aTxn keyLimit) belowId (c .before .before .before .before .before .before .before .before .top .given .0 .0 .active)) (now (c .before .before .before .before .before .before .before .before .before .before .before .before .args .room)) (c .before .before .before .before .t .given .0 .0 .end) (c .u .given .0 .0)
 begun c = rw (c .u .given .1) at (c .before .before .active-end .ensures)
 
 head-requires : tie.Need-head-requires

@@ -1,3 +1,4 @@
+-- Each test is one of the conjuncts of `soundly`, in its order.
 use borrow.Author.Tests.{le-leb, lt-leb, lt-ltb, le-ltb}
 use Rattle.room.proofs.sound.Statement.{statement}
 use Rattle.room.proofs.sound.Tie as tie

@@ -1,43 +1,31 @@
+-- Each way that a check ends has its law; the verdict is that of the search.
 use Rattle.answers.proofs.SeenLaws.{active-rows, entry-rows}
-use native.Mathlib.Omega.{arith}
-use Rattle.starts.proofs.StartLaws.{fresh-made, begins-malformed, begins-again, begins-full, begin-space, begins, checks-absent, checks-malformed, found-here, checks, nobody, least-is}
+use Rattle.starts.proofs.StartLaws.{checks-absent, checks-malformed, found-here, checks}
 use borrow.Author.Needs.{needs}
 use Rattle.starts.proofs.check.Statement.{statement}
 use Rattle.starts.proofs.check.Tie as tie
-use Rattle.starts.proofs.check.Reads as reads
-use Rattle.starts.proofs.check.Lts as lts
-use Rattle.places.proofs.finds.find_txn.Reads as find-txn-reads
-use Rattle.search.proofs.conflicts.Reads as conflicts-reads
 
--- src/lib.rt:66:9
 returns : tie.Need-returns
 returns c = checks-malformed _ _ _ (c .before .before .before .pre) (c .if1 .taken)
 
--- src/lib.rt:71:11
 find-txn-requires : tie.Need-find-txn-requires
 find-txn-requires c κs = active-rows (c .before .before .before .pre)
 
--- src/lib.rt:72:29
 enum-told : tie.Need-enum-told
 enum-told c = search needs
 
--- src/lib.rt:73:23
 enum-known-at : tie.Need-enum-known-at
 enum-known-at c = search needs
 
--- src/lib.rt:74:16
 conflicts-requires : tie.Need-conflicts-requires
 conflicts-requires c κs = (entry-rows (c .before .before .before .before .before .before .before .pre), found-here _ _ _ (c .before .before .before .before .before .before .before .pre) (rw (c .before .at .given .1) at (c .before .before .before .find-txn .ensures)))
 
--- src/lib.rt:75:17
 returns-2 : tie.Need-returns-2
 returns-2 c = checks _ _ _ (c .before .before .before .before .before .before .before .before .before .pre) (rw (c .before .before .before .at .given .1) at (c .before .before .before .before .before .find-txn .ensures)) (c .before .before .before .before .before .before .if1 .left) (rw (c .if2 .taken) at (c .before .conflicts .ensures))
 
--- src/lib.rt:61:1
 returns-3 : tie.Need-returns-3
 returns-3 c = checks-absent _ _ _ (c .before .before .before .before .before .before .pre) (c .before .before .before .if1 .left) (rw (c .enum-told .given .1) at (c .before .before .find-txn .ensures))
 
--- src/lib.rt:61:1
 returns-4 : tie.Need-returns-4
 returns-4 c = checks _ _ _ (c .before .before .before .before .before .before .before .before .before .pre) (rw (c .before .before .before .at .given .1) at (c .before .before .before .before .before .find-txn .ensures)) (c .before .before .before .before .before .before .if1 .left) (rw (c .if2 .left) at (c .before .conflicts .ensures))
 

@@ -1,3 +1,4 @@
+-- Either way the answer is `asBound`.
 use borrow.Author.Needs.{needs}
 use Rattle.room.proofs.range.bound_of.Statement.{statement}
 use Rattle.room.proofs.range.bound_of.Tie as tie

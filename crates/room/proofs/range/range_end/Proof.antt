@@ -1,17 +1,19 @@
+-- A range is two bounds whose pair is not empty.
 use mathlib.Core.Path.{sym, _∙_}
 use native.Mathlib.Omega.{arith}
 use borrow.Author.Needs.{needs}
 use denote.Ref.{now}
+use Rattle.keys.specs.Limit.{keyLimit}
 use Rattle.room.specs.BoundWalks.{BoundEnds}
 use Rattle.room.proofs.RangeLaws.{no-start, no-end, judged, range-empty, range-got}
 use Rattle.room.proofs.range.range_end.Statement.{statement}
 use Rattle.room.proofs.range.range_end.Tie as tie
 
 -- the bounds that were read
-first : (c : tie.After-start) → BoundEnds (now (c .before .before .before .before .args .room)) (c .before .before .before .before .args .at) (c .start .given .0 .0) (c .start .given .0 .1 .0)
+first : (c : tie.After-start) → BoundEnds keyLimit (now (c .before .before .before .before .args .room)) (c .before .before .before .before .args .at) (c .start .given .0 .0) (c .start .given .0 .1 .0)
 first c = rw (c .start .given .1) at (c .before .before .bound-end .ensures)
 
-second : (c : tie.After-end) → BoundEnds (now (c .before .before .before .before .before .before .before .before .args .room)) (c .before .before .before .before .start .given .0 .1 .0) (c .end .given .0 .0) (c .end .given .0 .1 .0)
+second : (c : tie.After-end) → BoundEnds keyLimit (now (c .before .before .before .before .before .before .before .before .args .room)) (c .before .before .before .before .start .given .0 .1 .0) (c .end .given .0 .0) (c .end .given .0 .1 .0)
 second c = rw (c .end .given .1) at (c .before .before .bound-end2 .ensures)
 
 bound-end-requires : tie.Need-bound-end-requires
@@ -72,16 +74,16 @@ add-bytes : tie.Need-add-bytes
 add-bytes c = search needs
 
 returns : tie.Need-returns
-returns c = range-got (first (c .before .before .before .before .before .before .before .before .before .before)) (second (c .before .before .before .before .before .before)) (judged (first (c .before .before .before .before .before .before .before .before .before .before)) (second (c .before .before .before .before .before .before)) _ _ (c .before .before .before .before .new .ensures) (sym (c .before .non-empty .ensures) ∙ c .if1 .taken))
+returns c = range-got _ (first (c .before .before .before .before .before .before .before .before .before .before)) (second (c .before .before .before .before .before .before)) (judged _ (first (c .before .before .before .before .before .before .before .before .before .before)) (second (c .before .before .before .before .before .before)) _ _ (c .before .before .before .before .new .ensures) (sym (c .before .non-empty .ensures) ∙ c .if1 .taken))
 
 returns-2 : tie.Need-returns-2
-returns-2 c = no-start (rw (c .enum-told .given .1) at (c .before .before .bound-end .ensures))
+returns-2 c = no-start _ (rw (c .enum-told .given .1) at (c .before .before .bound-end .ensures))
 
 returns-3 : tie.Need-returns-3
-returns-3 c = no-end (first (c .before .before .before .before)) (rw (c .enum-told2 .given .1) at (c .before .before .bound-end2 .ensures))
+returns-3 c = no-end _ (first (c .before .before .before .before)) (rw (c .enum-told2 .given .1) at (c .before .before .bound-end2 .ensures))
 
 returns-4 : tie.Need-returns-4
-returns-4 c = range-empty (first (c .before .before .before .before .before .before .before .before .before .before)) (second (c .before .before .before .before .before .before)) (judged (first (c .before .before .before .before .before .before .before .before .before .before)) (second (c .before .before .before .before .before .before)) _ _ (c .before .before .before .before .new .ensures) (sym (c .before .non-empty .ensures) ∙ c .if1 .left))
+returns-4 c = range-empty _ (first (c .before .before .before .before .before .before .before .before .before .before)) (second (c .before .before .before .before .before .before)) (judged _ (first (c .before .before .before .before .before .before .before .before .before .before)) (second (c .before .before .before .before .before .before)) _ _ (c .before .before .before .before .new .ensures) (sym (c .before .non-empty .ensures) ∙ c .if1 .left))
 
 pub range-end-spec : {M : Type 1} → statement M
 range-end-spec =

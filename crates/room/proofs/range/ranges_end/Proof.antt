@@ -1,3 +1,4 @@
+-- A list of ranges is its count and so many ranges.
 use borrow.Author.Needs.{needs}
 use Rattle.room.proofs.RangeLaws.{ranges-short, ranges-ends}
 use Rattle.room.proofs.range.ranges_end.Statement.{statement}
@@ -7,7 +8,7 @@ sub-if1 : tie.Need-sub-if1
 sub-if1 c = search needs
 
 returns : tie.Need-returns
-returns c = ranges-short _ _ (c .if1 .taken)
+returns c = ranges-short _ _ _ (c .if1 .taken)
 
 read-two-requires : tie.Need-read-two-requires
 read-two-requires c κs = search needs
@@ -19,7 +20,7 @@ run-end-requires : tie.Need-run-end-requires
 run-end-requires c κs = search needs
 
 returns-2 : tie.Need-returns-2
-returns-2 c = ranges-ends _ _ _ (c .before .read-two .ensures) (c .run-end .result) (c .run-end .ensures)
+returns-2 c = ranges-ends _ _ _ _ (c .before .read-two .ensures) (c .run-end .result) (c .run-end .ensures)
 
 pub ranges-end-spec : {M : Type 1} → statement M
 ranges-end-spec =

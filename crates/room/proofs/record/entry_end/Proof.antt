@@ -1,3 +1,4 @@
+-- An entry is a sequence and a set; its highest number is the sequence.
 use borrow.Author.Needs.{needs}
 use Rattle.room.proofs.EntryLaws.{entry-short, entry-cut, entry-got}
 use Rattle.room.proofs.record.entry_end.Statement.{statement}
@@ -7,7 +8,7 @@ sub-if1 : tie.Need-sub-if1
 sub-if1 c = search needs
 
 returns : tie.Need-returns
-returns c = entry-short _ _ (c .if1 .taken)
+returns c = entry-short _ _ _ (c .if1 .taken)
 
 read-eight-requires : tie.Need-read-eight-requires
 read-eight-requires c κs = search needs
@@ -25,10 +26,10 @@ enum-told : tie.Need-enum-told
 enum-told c = search needs
 
 returns-2 : tie.Need-returns-2
-returns-2 c = entry-got _ _ _ (c .before .before .before .before .read-eight .ensures) (rw (c .before .t .given .1) at (c .before .before .before .set-end .ensures))
+returns-2 c = entry-got _ _ _ _ (c .before .before .before .before .read-eight .ensures) (rw (c .before .t .given .1) at (c .before .before .before .set-end .ensures))
 
 returns-3 : tie.Need-returns-3
-returns-3 c = entry-cut _ _ _ (c .before .before .before .read-eight .ensures) (rw (c .enum-told .given .1) at (c .before .before .set-end .ensures))
+returns-3 c = entry-cut _ _ _ _ (c .before .before .before .read-eight .ensures) (rw (c .enum-told .given .1) at (c .before .before .set-end .ensures))
 
 pub entry-end-spec : {M : Type 1} → statement M
 entry-end-spec =

@@ -1,7 +1,10 @@
+-- A transaction is an id, a start, two sets and a list of ranges; the first of them that is missing cuts it.
 use Prim.Native.Nat.{_+_}
 use native.Mathlib.Omega.{arith}
 use borrow.Author.Needs.{needs}
 use denote.Ref.{now}
+use Rattle.layout.specs.Offsets.{writesAt}
+use Rattle.keys.specs.Limit.{keyLimit}
 use Rattle.room.specs.Walks.{Got}
 use Rattle.room.specs.Counts.{aSet, someRanges}
 use Rattle.room.proofs.EntryLaws.{txn-short, no-writes, no-reads, no-ranges, join-ranges, txn-got}
@@ -10,20 +13,20 @@ use Rattle.room.proofs.record.txn_end.Statement.{statement}
 use Rattle.room.proofs.record.txn_end.Tie as tie
 
 -- the sets and the ranges that were read
-written : (c : tie.After-w) → Got aSet (now (c .before .before .before .before .before .before .args .room)) (c .before .before .before .before .before .before .args .at + 24) (c .w .given .0 .0)
+written : (c : tie.After-w) → Got (aSet keyLimit) (now (c .before .before .before .before .before .before .args .room)) (c .before .before .before .before .before .before .args .at + writesAt) (c .w .given .0 .0)
 written c = rw (c .w .given .1) at (c .before .before .set-end .ensures)
 
-readOnes : (c : tie.After-r) → Got aSet (now (c .before .before .before .before .before .before .before .before .before .before .args .room)) (c .before .before .before .before .w .given .0 .0 .end) (c .r .given .0 .0)
+readOnes : (c : tie.After-r) → Got (aSet keyLimit) (now (c .before .before .before .before .before .before .before .before .before .before .args .room)) (c .before .before .before .before .w .given .0 .0 .end) (c .r .given .0 .0)
 readOnes c = rw (c .r .given .1) at (c .before .before .set-end2 .ensures)
 
-ranged : (c : tie.After-x) → Got someRanges (now (c .before .before .before .before .before .before .before .before .before .before .before .before .before .before .args .room)) (c .before .before .before .before .r .given .0 .0 .end) (c .x .given .0 .0)
+ranged : (c : tie.After-x) → Got (someRanges keyLimit) (now (c .before .before .before .before .before .before .before .before .before .before .before .before .before .before .args .room)) (c .before .before .before .before .r .given .0 .0 .end) (c .x .given .0 .0)
 ranged c = rw (c .x .given .1) at (c .before .before .ranges-end .ensures)
 
 sub-if1 : tie.Need-sub-if1
 sub-if1 c = search needs
 
 returns : tie.Need-returns
-returns c = txn-short _ _ (c .if1 .taken)
+returns c = txn-short _ _ _ (c .if1 .taken)
 
 add-read-eight : tie.Need-add-read-eight
 add-read-eight c = search needs
@@ -65,19 +68,19 @@ joined-requires : tie.Need-joined-requires
 joined-requires c κs = can-join (written (c .before .before .before .before .before .before .before .before .before)) (readOnes (c .before .before .before .before .before))
 
 joined-requires-2 : tie.Need-joined-requires-2
-joined-requires-2 c κs = join-ranges _ _ _ (omega arith) (c .before .before .before .before .before .before .before .before .before .before .before .before .before .read-eight .ensures) (written (c .before .before .before .before .before .before .before .before .before .before)) (readOnes (c .before .before .before .before .before .before)) (ranged (c .before .before)) _ (c .joined .ensures)
+joined-requires-2 c κs = join-ranges _ _ _ _ (omega arith) (c .before .before .before .before .before .before .before .before .before .before .before .before .before .read-eight .ensures) (written (c .before .before .before .before .before .before .before .before .before .before)) (readOnes (c .before .before .before .before .before .before)) (ranged (c .before .before)) _ (c .joined .ensures)
 
 returns-2 : tie.Need-returns-2
-returns-2 c = no-writes _ _ _ (omega arith) (c .before .before .before .read-eight .ensures) (rw (c .enum-told .given .1) at (c .before .before .set-end .ensures))
+returns-2 c = no-writes _ _ _ _ (omega arith) (c .before .before .before .read-eight .ensures) (rw (c .enum-told .given .1) at (c .before .before .set-end .ensures))
 
 returns-3 : tie.Need-returns-3
-returns-3 c = no-reads _ _ _ (omega arith) (c .before .before .before .before .before .before .before .read-eight .ensures) (written (c .before .before .before .before)) (rw (c .enum-told2 .given .1) at (c .before .before .set-end2 .ensures))
+returns-3 c = no-reads _ _ _ _ (omega arith) (c .before .before .before .before .before .before .before .read-eight .ensures) (written (c .before .before .before .before)) (rw (c .enum-told2 .given .1) at (c .before .before .set-end2 .ensures))
 
 returns-4 : tie.Need-returns-4
-returns-4 c = no-ranges _ _ _ (omega arith) (c .before .before .before .before .before .before .before .before .before .before .before .read-eight .ensures) (written (c .before .before .before .before .before .before .before .before)) (readOnes (c .before .before .before .before)) (rw (c .enum-told3 .given .1) at (c .before .before .ranges-end .ensures))
+returns-4 c = no-ranges _ _ _ _ (omega arith) (c .before .before .before .before .before .before .before .before .before .before .before .read-eight .ensures) (written (c .before .before .before .before .before .before .before .before)) (readOnes (c .before .before .before .before)) (rw (c .enum-told3 .given .1) at (c .before .before .ranges-end .ensures))
 
 returns-5 : tie.Need-returns-5
-returns-5 c = txn-got _ _ _ (omega (arith, c .before .before .before .before .before .before .before .before .before .before .before .before .before .before .before .if1 .left)) (c .before .before .before .before .before .before .before .before .before .before .before .before .before .before .read-eight .ensures) (written (c .before .before .before .before .before .before .before .before .before .before .before)) (readOnes (c .before .before .before .before .before .before .before)) (ranged (c .before .before .before)) _ (c .before .joined .ensures) _ (c .joined2 .ensures)
+returns-5 c = txn-got _ _ _ _ (omega (arith, c .before .before .before .before .before .before .before .before .before .before .before .before .before .before .before .if1 .left)) (c .before .before .before .before .before .before .before .before .before .before .before .before .before .before .read-eight .ensures) (written (c .before .before .before .before .before .before .before .before .before .before .before)) (readOnes (c .before .before .before .before .before .before .before)) (ranged (c .before .before .before)) _ (c .before .joined .ensures) _ (c .joined2 .ensures)
 
 pub txn-end-spec : {M : Type 1} → statement M
 txn-end-spec =

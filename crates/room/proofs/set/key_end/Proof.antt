@@ -1,3 +1,4 @@
+-- A key is cut where its length, the limit or the bytes run out; otherwise it is what its length says.
 use native.Mathlib.Omega.{arith}
 use borrow.Author.Needs.{needs}
 use Rattle.room.proofs.SetLaws.{key-short, key-long, key-cut, key-got}

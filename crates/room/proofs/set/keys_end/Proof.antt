@@ -1,8 +1,10 @@
+-- Invariant: of the n keys those before t.end are read, ascending and counted, and the last of them stands at p (`Ordered`).
 use mathlib.Core.Path.{sym, _∙_}
 use native.Mathlib.Omega.{arith}
 use borrow.Author.Tests.{not-true, not-false}
 use borrow.Author.Needs.{needs}
 use denote.Ref.{now}
+use Rattle.layout.specs.Offsets.{lengthSize}
 use Rattle.keys.specs.Limit.{keyLimit}
 use Rattle.room.specs.Walks.{Got}
 use Rattle.room.specs.Counts.{aKey}
@@ -12,7 +14,7 @@ use Rattle.room.proofs.set.keys_end.Statement.{statement}
 use Rattle.room.proofs.set.keys_end.Tie as tie
 
 abbrev Inv-loop : tie.InvT-loop
-Inv-loop room at n t₀ p₀ left₀ t p left = Ordered (aKey keyLimit) itself keyAt 2 room at n t p left
+Inv-loop room at n t₀ p₀ left₀ t p left = Ordered (aKey keyLimit) itself keyAt lengthSize room at n t p left
 
 abbrev μ-loop : tie.MeasureT-loop
 μ-loop room at n t₀ p₀ left₀ t p left = left
@@ -25,7 +27,7 @@ start-requires : tie.Need-start-requires Inv-loop μ-loop
 start-requires c κs = search needs
 
 loop-holds : tie.Need-loop-holds Inv-loop μ-loop
-loop-holds c = ordered-start (aKey keyLimit) itself keyAt 2 _ _ _ (omega arith) _ (c .start .ensures)
+loop-holds c = ordered-start (aKey keyLimit) itself keyAt lengthSize _ _ _ (omega arith) _ (c .start .ensures)
 
 key-end-requires : tie.Need-key-end-requires Inv-loop μ-loop
 key-end-requires c κs = c .before .loop .inv .going .inside
@@ -34,13 +36,13 @@ enum-known-u : tie.Need-enum-known-u Inv-loop μ-loop
 enum-known-u c = search needs
 
 key-follows-requires : tie.Need-key-follows-requires Inv-loop μ-loop
-key-follows-requires c κs = (ordered-apart (aKey keyLimit) itself keyAt 2 (c .before .before .before .before .before .loop .inv), (key-labelled keyLimit _ _ _ _ (seen (c .before) .part) .0, seen (c .before) .part .inside))
+key-follows-requires c κs = (ordered-apart (aKey keyLimit) itself keyAt lengthSize (c .before .before .before .before .before .loop .inv), (key-labelled keyLimit _ _ _ _ (seen (c .before) .part) .0, seen (c .before) .part .inside))
 
 returns : tie.Need-returns Inv-loop μ-loop
-returns c = ordered-unfit (aKey keyLimit) itself keyAt 2 (c .before .before .before .before .before .before .before .loop .inv) (omega arith) (omega arith) (key-labelled keyLimit) (seen (c .before .before .before)) (sym (c .before .key-follows .ensures) ∙ not-true _ (c .if1 .taken))
+returns c = ordered-unfit (aKey keyLimit) itself keyAt lengthSize (c .before .before .before .before .before .before .before .loop .inv) (omega arith) (omega arith) (key-labelled keyLimit) (seen (c .before .before .before)) (sym (c .before .key-follows .ensures) ∙ not-true _ (c .if1 .taken))
 
 joined-requires : tie.Need-joined-requires Inv-loop μ-loop
-joined-requires c κs = going-join (aKey keyLimit) (ascending (aKey keyLimit) itself keyAt 2) (c .before .before .before .before .before .before .before .loop .inv .going) (seen (c .before .before .before))
+joined-requires c κs = going-join (aKey keyLimit) (ascending (aKey keyLimit) itself keyAt lengthSize) (c .before .before .before .before .before .before .before .loop .inv .going) (seen (c .before .before .before))
 
 sub-left : tie.Need-sub-left Inv-loop μ-loop
 sub-left c = search needs
@@ -49,16 +51,16 @@ loop-less : tie.Need-loop-less Inv-loop μ-loop
 loop-less c = search needs
 
 loop-again : tie.Need-loop-again Inv-loop μ-loop
-loop-again c = ordered-next (aKey keyLimit) itself keyAt 2 (c .before .before .before .before .before .before .before .before .loop .inv) (omega arith) (omega arith) (key-labelled keyLimit) (seen (c .before .before .before .before)) (sym (c .before .before .key-follows .ensures) ∙ not-false _ (c .before .if1 .left)) _ (c .joined .ensures)
+loop-again c = ordered-next (aKey keyLimit) itself keyAt lengthSize (c .before .before .before .before .before .before .before .before .loop .inv) (omega arith) (omega arith) (key-labelled keyLimit) (seen (c .before .before .before .before)) (sym (c .before .before .key-follows .ensures) ∙ not-false _ (c .before .if1 .left)) _ (c .joined .ensures)
 
 enum-told : tie.Need-enum-told Inv-loop μ-loop
 enum-told c = search needs
 
 returns-2 : tie.Need-returns-2 Inv-loop μ-loop
-returns-2 c = ordered-cut (aKey keyLimit) itself keyAt 2 (c .before .before .before .before .loop .inv) (omega arith) (rw (c .enum-told .given .1) at (c .before .before .key-end .ensures))
+returns-2 c = ordered-cut (aKey keyLimit) itself keyAt lengthSize (c .before .before .before .before .loop .inv) (omega arith) (rw (c .enum-told .given .1) at (c .before .before .key-end .ensures))
 
 returns-3 : tie.Need-returns-3 Inv-loop μ-loop
-returns-3 c = ordered-end (aKey keyLimit) itself keyAt 2 (c .before .loop .inv) (omega arith)
+returns-3 c = ordered-end (aKey keyLimit) itself keyAt lengthSize (c .before .loop .inv) (omega arith)
 
 pub keys-end-spec : {M : Type 1} → statement M
 keys-end-spec =

@@ -1,3 +1,4 @@
+-- What two tallies count together stays within the place that they end at, so no sum overflows.
 use borrow.Author.Needs.{needs}
 use Rattle.room.proofs.tally.Tally.joined.Statement.{statement}
 use Rattle.room.proofs.tally.Tally.joined.Tie as tie
