@@ -1,16 +1,13 @@
 -- How a batch ends.
 use Prim.Native.Nat.{ℕ, _+_, _-_, _≤_, _<_, _^_, max}
 use mathlib.Core.Path.{_≡_, refl, sym, ap, _∙_, subst}
-use mathlib.Core.Bool.{Bool, true, false, cond}
 use mathlib.Core.List.{List, [], _∷_, _++_}
 use mathlib.Core.Logic.{_⊎_, inl, inr}
-use mathlib.Core.Option.{Option, none, some}
 use native.Mathlib.Omega.{arith}
 use lib.ListN.{length, take, drop, length-append, length-drop}
 use lib.Seq.{paste, length-paste}
-use Rattle.keys.specs.Limit.{keyLimit}
 use Rattle.fields.specs.Fields.{keyList}
-use Rattle.fields.specs.Forms.{shortKeys, formOf}
+use Rattle.fields.specs.Forms.{formOf}
 use Rattle.fields.specs.declared.Form.{Form}
 use Rattle.machine.specs.Lists.{sum}
 use Rattle.machine.specs.State.{Bytes, Entry, State, withEntries, advanced, base, MachineState, marks, keyBytes, setBytes}
@@ -45,7 +42,7 @@ use Rattle.commits.specs.Batches.{Entering}
 use Rattle.answers.proofs.SeenLaws.{seen-load, seen-held, seen-laid}
 use Rattle.answers.proofs.FoundLaws.{within}
 use Rattle.answers.proofs.StateLaws.{none-left}
-use Rattle.answers.proofs.FormLaws.{Listed, no-list, long-list, good-list}
+use Rattle.answers.proofs.FormLaws.{no-list, long-list, good-list}
 use Rattle.answers.proofs.AdvanceLaws.{advance-changed, empty-advanced}
 
 -- ---- before the list's keys are looked at

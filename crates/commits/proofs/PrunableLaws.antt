@@ -1,5 +1,5 @@
 -- A room that was seen to hold a state can be pruned, as it is and with one of the active ones taken out.
-use Prim.Native.Nat.{ℕ, _+_, _-_, _≤_}
+use Prim.Native.Nat.{ℕ, _-_, _≤_}
 use mathlib.Core.Path.{_≡_, refl, sym, ap, subst}
 use mathlib.Core.List.{List, []}
 use mathlib.Core.Option.{none}

@@ -1,12 +1,12 @@
 -- The bytes that the changes of a room put in and take out.
 use Prim.Native.Nat.{ℕ, _+_, _-_, _≤_}
-use native.Mathlib.Nat.{add-zero, le-refl}
+use native.Mathlib.Nat.{add-zero}
 use mathlib.Core.Path.{_≡_, refl, sym, ap, _∙_}
-use mathlib.Core.List.{List, [], _∷_, _++_, append-assoc, append-nil}
+use mathlib.Core.List.{List, [], _++_, append-assoc, append-nil}
 use native.Mathlib.Omega.{arith}
 use lib.ListN.{length, take, drop, length-append, length-replicate, replicate, drop-of-length-le}
 use lib.Seq.{paste, paste-zero, take-all, take-length}
-use Rattle.machine.specs.State.{Bytes, base}
+use Rattle.machine.specs.State.{base}
 use Rattle.machine.specs.Serve.{newTxn}
 use Rattle.codec.specs.Codec.{writeRun, writeNumber}
 use Rattle.codec.specs.Formats.{number, raw, bind, only, via, run}

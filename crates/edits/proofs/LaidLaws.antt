@@ -1,8 +1,8 @@
 -- The laws of a room's bytes while a call changes it (`Laid`): a number of the heads written over, records put in and taken out, and
 -- the record of a state at the start and at the end.
-use Prim.Native.Nat.{ℕ, _+_, _-_, _≤_, _<_, _^_}
+use Prim.Native.Nat.{ℕ, _+_, _≤_, _<_, _^_}
 use mathlib.Core.Path.{_≡_, refl, sym, ap, _∙_, subst}
-use mathlib.Core.List.{List, [], _∷_, _++_, append-assoc}
+use mathlib.Core.List.{List, _++_, append-assoc}
 use native.Mathlib.Omega.{arith}
 use lib.ListN.{length, take, drop, length-append, take-append-drop}
 use lib.Seq.{paste, length-take-le, take-at}
@@ -16,8 +16,8 @@ use Rattle.moves.proofs.SpliceLaws.{replaces, written-over, untouched}
 use Rattle.layout.specs.Offsets.{numberSize, countSize, lastAt, partAt, entryCountAt, activeCountAt, entriesAt}
 use Rattle.layout.specs.Records.{headForm, countsForm, stamp}
 use Rattle.layout.specs.States.{plainForm, Heads, headsOf, writeHeads, setLast, setEntryCount, setActiveCount, roomSize}
-use Rattle.layout.proofs.SizeLaws.{heads-length, state-bytes}
-use Rattle.layout.proofs.LoadLaws.{Writes, Held, Changed}
+use Rattle.layout.proofs.SizeLaws.{head-length, heads-length, state-bytes}
+use Rattle.layout.proofs.LoadLaws.{Held, Changed}
 use Rattle.edits.specs.Laid.{entriesOf, activeOf, bytesOf, Laid}
 
 bytes-length : (h : Heads) (es ts : List ℕ) → length (bytesOf h es ts) ≡ entriesAt + (length es + length ts)
@@ -63,36 +63,37 @@ module _ {s0 s : List ℕ} {used : ℕ} {h : Heads} {es ts : List ℕ} (v : Laid
       let r = laid-splice p (number w .write y) q h' es ts (over-spliced w s s' used at x e k inside) a b ea (sym (length-number w y)) (rw u (v .short)) in
       rw u at r
 
+  -- the counts of the part, and what stands behind them
+  abbrev part : List ℕ
+  part = countsForm .write (record { entries = h .entries; active = h .active }) ++ (es ++ ts)
+
   -- the last number, where it is read
   pub laid-number : h .last < 256 ^ 8 → Stands (number numberSize) s lastAt (h .last) partAt
-  unfolding number headForm countsForm via bind only
+  unfolding number headForm via bind only
   laid-number k =
-      let q : List ℕ = number countSize .write (h .entries) ++ (number countSize .write (h .active) ++ (es ++ ts)) in
       let l = h .last in
-      let e : s ≡ number numberSize .write stamp ++ (number numberSize .write l ++ (q ++ drop used s)) = sym (take-append-drop used s) ∙ rw (v .bytes) (simp append-assoc) in
+      let e : s ≡ number numberSize .write stamp ++ (number numberSize .write l ++ (part ++ drop used s)) = sym (take-append-drop used s) ∙ rw (v .bytes) (simp append-assoc) in
       let a : length (number numberSize .write stamp) ≡ lastAt = length-number numberSize stamp in
       let b : length (number numberSize .write stamp) + length (number numberSize .write l) ≡ partAt = rw (a, length-number numberSize l) in
-      let r = written-stands (number numberSize) s (number numberSize .write stamp) (q ++ drop used s) l k e in
+      let r = written-stands (number numberSize) s (number numberSize .write stamp) (part ++ drop used s) l k e in
       subst (λ (x : ℕ). Stands (number numberSize) s x l partAt) a (subst (Stands (number numberSize) s (length (number numberSize .write stamp)) l) b r)
 
+  -- one law for each number of the heads
   pub laid-last : {s' : List ℕ} (x : ℕ) → s' ≡ paste s lastAt (number numberSize .write x) numberSize → Laid s0 s' used (setLast x h) es ts
-  unfolding headForm countsForm via bind only
+  unfolding headForm via bind only
   laid-last x e =
-      let q : List ℕ = number countSize .write (h .entries) ++ (number countSize .write (h .active) ++ (es ++ ts)) in
-      laid-over numberSize lastAt x (h .last) (number numberSize .write stamp) q (setLast x h) e (simp append-assoc) (simp append-assoc) (sym (length-number numberSize stamp)) (omega (arith, laid-used))
+      laid-over numberSize lastAt x (h .last) (number numberSize .write stamp) part (setLast x h) e (simp append-assoc) (simp append-assoc) (sym (length-number numberSize stamp)) (omega (arith, laid-used))
 
   pub laid-entries : {s' : List ℕ} (x : ℕ) → s' ≡ paste s entryCountAt (number countSize .write x) countSize → Laid s0 s' used (setEntryCount x h) es ts
-  unfolding headForm countsForm via bind only
+  unfolding countsForm via bind
   laid-entries x e =
-      let p : List ℕ = number numberSize .write stamp ++ number numberSize .write (h .last) in
-      let lp : entryCountAt ≡ length p = simp (length-append, length-number) in
-      laid-over countSize entryCountAt x (h .entries) p (number countSize .write (h .active) ++ (es ++ ts)) (setEntryCount x h) e (simp append-assoc) (simp append-assoc) lp (omega (arith, laid-used))
+      laid-over countSize entryCountAt x (h .entries) (headForm .write (h .last)) (number countSize .write (h .active) ++ (es ++ ts)) (setEntryCount x h) e (simp append-assoc) (simp append-assoc) (sym (head-length (h .last))) (omega (arith, laid-used))
 
   pub laid-active : {s' : List ℕ} (x : ℕ) → s' ≡ paste s activeCountAt (number countSize .write x) countSize → Laid s0 s' used (setActiveCount x h) es ts
-  unfolding headForm countsForm via bind only
+  unfolding countsForm via bind
   laid-active x e =
-      let p : List ℕ = number numberSize .write stamp ++ (number numberSize .write (h .last) ++ number countSize .write (h .entries)) in
-      let lp : activeCountAt ≡ length p = simp (length-append, length-number) in
+      let p : List ℕ = headForm .write (h .last) ++ number countSize .write (h .entries) in
+      let lp : activeCountAt ≡ length p = sym (length-append (headForm .write (h .last)) (number countSize .write (h .entries)) ∙ rw (head-length (h .last), length-number countSize (h .entries))) in
       laid-over countSize activeCountAt x (h .active) p (es ++ ts) (setActiveCount x h) e (simp append-assoc) (simp append-assoc) lp (omega (arith, laid-used))
 
 module _ {s0 s : List ℕ} {used : ℕ} {h : Heads} where

@@ -1,6 +1,6 @@
 -- The number that advances is the larger of the one that was read and the new one.
 use Prim.Native.Nat.{ℕ, max}
-use mathlib.Core.Path.{_≡_, refl, sym, ap, _∙_}
+use mathlib.Core.Path.{_≡_, sym, ap, _∙_}
 use mathlib.Core.List.{List}
 use lib.ListN.{drop}
 use lib.Seq.{paste}

@@ -1,14 +1,12 @@
 -- The loop that moves the kept entries together: s is the room at the start, r as it is now.
 use Prim.Native.Nat.{ℕ, suc, _+_, _-_, _≤_, _<_}
-use native.Mathlib.Nat.{le-refl}
 use mathlib.Core.Path.{_≡_, refl, sym, ap, _∙_}
-use mathlib.Core.Bool.{Bool, true, false}
 use mathlib.Core.List.{List, [], _∷_, _++_, append-assoc, append-nil}
 use native.Mathlib.Omega.{arith}
 use borrow.Author.Tests.{le-leb, lt-leb}
 use lib.Dec.{leb}
 use lib.ListN.{length, take, drop, length-append, length-drop}
-use lib.Seq.{paste, length-paste, take-paste, drop-paste, drop-drop, slice}
+use lib.Seq.{paste, length-paste, take-paste, drop-paste, slice}
 use Rattle.machine.specs.Lists.{keep}
 use Rattle.machine.specs.State.{Entry, base}
 use Rattle.machine.proofs.ListLaws.{keep-append}
@@ -19,10 +17,9 @@ use Rattle.moves.proofs.SpliceLaws.{drop-take, later}
 use Rattle.layout.specs.Offsets.{numberSize, entriesAt, keysAt}
 use Rattle.layout.specs.Records.{entryForm}
 use Rattle.layout.specs.Places.{Part, Row, Rows, Here, Ends}
-use Rattle.layout.proofs.PartLaws.{part-slice, part-end, number-read-is}
-use Rattle.layout.proofs.RowLaws.{row-inside, row-one, write-append}
+use Rattle.layout.proofs.PartLaws.{part-slice, number-read-is}
+use Rattle.layout.proofs.RowLaws.{row-one, write-append}
 use Rattle.layout.proofs.OpenLaws.{open-entry}
-use Rattle.edits.specs.declared.leaving.Kept.{Kept}
 use Rattle.edits.specs.Leaving.{keptFrom, PrunedTo, Prunes}
 
 abbrev E : Codec Entry

@@ -1,3 +1,4 @@
+-- The flat sum is the number that eight bytes make.
 use native.Mathlib.Omega.{arith}
 use Rattle.codec.proofs.NumberLaws.{stands-number}
 use borrow.Author.Needs.{needs}

@@ -1,3 +1,4 @@
+-- The two stores are the digits of the number, so they are its record.
 use native.Mathlib.Omega.{arith}
 use lib.ListN.{length-set}
 use Rattle.codec.proofs.NumberLaws.{stores-number}

@@ -1,3 +1,4 @@
+-- Each way that a batch ends before its keys are looked at has its law.
 use Rattle.commits.proofs.BatchLaws.{batch-no-list, batch-over-long, batch-nobody, batch-many, entering}
 use mathlib.Core.Path.{sym, _∙_}
 use native.Mathlib.Omega.{arith}

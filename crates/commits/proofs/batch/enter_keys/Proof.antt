@@ -1,3 +1,4 @@
+-- The draft holds the set of the list's keys within what the totals leave, or the batch is refused.
 use Rattle.answers.proofs.FoundLaws.{within}
 use Rattle.tracks.proofs.DraftLaws.{zeros, zeros-long}
 use Rattle.commits.proofs.BatchLaws.{begun, set-inside, batch-room, room-for-last, batch-entered, batch-over}

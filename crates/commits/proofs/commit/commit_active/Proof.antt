@@ -1,3 +1,4 @@
+-- Each way that a commit ends has its law: malformed, unknown, alone, full, entered.
 use Rattle.answers.proofs.SeenLaws.{active-rows}
 use Rattle.commits.proofs.CommitLaws.{commit-refused, commit-unknown, commit-only, commit-many, commit-leaving, commit-entered}
 use Rattle.answers.proofs.LeftLaws.{here-bounds}

@@ -1,3 +1,4 @@
+-- The writes are copied before their owner is taken out, so that the entry holds them.
 use native.Mathlib.Omega.{arith}
 use Rattle.tracks.proofs.DraftLaws.{zeros, zeros-long}
 use Rattle.commits.proofs.LeaveLaws.{writes-here, writes-span, copy-fits, copied-fits, entry-fits, entered}

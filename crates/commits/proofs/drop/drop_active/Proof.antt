@@ -1,3 +1,4 @@
+-- With the id taken out if it is there, what stands can be pruned, and the pruned state is the machine's.
 use Rattle.answers.proofs.SeenLaws.{active-rows}
 use Rattle.commits.proofs.DropLaws.{drop-refused, drop-unknown, drop-prunable, drop-known}
 use Rattle.answers.proofs.LeftLaws.{Bounds, here-bounds}
