@@ -78,7 +78,8 @@ impl ComparableRange {
         )
     }
 
-    // The greater start's key, handed back as a part of whichever slice it came in.
+    // The greater start's key, handed back as a part of whichever slice it came in: for callers, since `intersect` answers
+    // sides and would compare the keys twice.
     pub fn intersect_start<'a>(
         self,
         start_key: &'a [u8],
@@ -93,7 +94,7 @@ impl ComparableRange {
         side.key(start_key, other_start_key)
     }
 
-    // The lesser end's key, handed back as a part of whichever slice it came in.
+    // The lesser end's key, likewise.
     pub fn intersect_end<'a>(
         self,
         end_key: &'a [u8],

@@ -3,6 +3,9 @@ ghost use Prim.Native.Nat.{_+_, _≤_};
 use crate::lists::put_field;
 use crate::lists::put_keys;
 use answers::Answer;
+use fields::EXCLUDED;
+use fields::INCLUDED;
+use fields::UNBOUNDED;
 use libc::STDOUT_FILENO;
 use manager::transaction_manager::drop_txn;
 use manager::transaction_manager::new_transaction;
@@ -18,12 +21,6 @@ const LIST: usize = 33480;
 
 // Place for a bound of 513 bytes and an unbounded one.
 const BOUNDS: usize = 519;
-
-const UNBOUNDED: u8 = 0x10;
-
-const INCLUDED: u8 = 0x11;
-
-const EXCLUDED: u8 = 0x12;
 
 // The transaction that tracks.
 const A: u8 = 1;

@@ -3,13 +3,10 @@ ghost use mathlib.Core.Path.{_≡_};
 ghost use Prim.Native.Nat.{_+_, _≤_};
 ghost use lib.ListN.{length};
 use codec::numbers::write_two;
+use fields::FIELD_HEAD;
+use fields::KEY;
 
-const KEY: u8 = 0x4b;
-
-// A field's tag and length take this many bytes.
-const HEAD: usize = 3;
-
-// With a key's number of two bytes after them.
+// A field's tag and length, with a key's number of two bytes after them.
 const NUMBERED: usize = 5;
 
 // Puts a field's tag and length, and tells where its payload ends.
@@ -19,7 +16,7 @@ pub fn put_field(bytes: &mut [u8], at: usize, tag: u8, size: usize) -> usize
 {
     write_two(bytes, at + 1, size);
     bytes[at] = tag;
-    at + HEAD + size
+    at + FIELD_HEAD + size
 }
 
 // A key is its number in two bytes and then what stands there, cut to its size.
@@ -27,7 +24,7 @@ fn put_key(list: &mut [u8], at: usize, number: usize, size: usize) -> usize
     requires { ⌜ at + 5 + size ≤ length (now list) ⌝ }
     ensures { λ r. ⌜ r ≡ at + 3 + size ⌝ }
 {
-    write_two(list, at + HEAD, number);
+    write_two(list, at + FIELD_HEAD, number);
     put_field(list, at, KEY, size)
 }
 

@@ -8,10 +8,11 @@ use borrow.Author.Tests.{eq-eqb, ne-eqb}
 use lib.ListN.{length, drop, length-drop, drop-of-length-le}
 use lib.Seq.{slice, length-slice}
 use Rattle.kinds.specs.Bounds.{Bound, unbounded, included, excluded, bound}
+use Rattle.kinds.specs.declared.kind.Kind.the-variants.{Unbounded, Included, Excluded}
 use Rattle.bounds.specs.Ranges.{range}
-use Rattle.fields.specs.declared.Places.{Places}
-use Rattle.fields.specs.Fields.{field, before, onSome, fields, asBound, boundList, pairOf, boundsOf}
-use Rattle.fields.specs.Forms.{ItemAt, EndAt, CutAt, NoBoundAt, BoundsAt, NoBoundsIn, firstOf, boundTag}
+use Rattle.fields.specs.declared.BoundPlaces.{BoundPlaces}
+use Rattle.fields.specs.Fields.{boundTag, field, before, onSome, fields, asBound, boundList, pairOf, boundsOf}
+use Rattle.fields.specs.Forms.{ItemAt, EndAt, CutAt, NoBoundAt, BoundsAt, NoBoundsIn, firstOf}
 use Rattle.fields.proofs.Lists.{list-nil, list-cut, list-item, list-broken, list-more}
 
 pub bounds-cut : {bs : List ℕ} {at : ℕ} → CutAt bs at → NoBoundAt bs at
@@ -21,29 +22,29 @@ pub bounds-end : {bs : List ℕ} {at : ℕ} → EndAt bs at → NoBoundAt bs at
 bounds-end b = record { lacks = ap firstOf (ap boundList (b .ends) ∙ list-nil asBound) }
 
 module _ {bs : List ℕ} {at tag from to : ℕ} (i : ItemAt fields bs at tag from to (field tag (slice from to bs))) where
-  pub unbounded-here : tag ≡ 0x10 → to ≤ from → ItemAt boundList bs at 0x10 from to unbounded
+  pub unbounded-here : tag ≡ boundTag Unbounded → to ≤ from → ItemAt boundList bs at (boundTag Unbounded) from to unbounded
   unfolding asBound
   unbounded-here e k =
       let n : length (slice from to bs) ≡ 0 = length-slice from to bs (i .within) ∙ omega arith in
-      list-item asBound i 0x10 unbounded e (rw (eq-eqb tag 0x10 e, n))
+      list-item asBound i (boundTag Unbounded) unbounded e (rw (eq-eqb tag (boundTag Unbounded) e, n))
 
-  pub unbounded-full : tag ≡ 0x10 → from < to → NoBoundAt bs at
+  pub unbounded-full : tag ≡ boundTag Unbounded → from < to → NoBoundAt bs at
   unfolding asBound
   unbounded-full e k =
       let n : length (slice from to bs) ≡ 0 → ⊥ = λ z. omega (arith, length-slice from to bs (i .within)) in
-      record { lacks = ap firstOf (list-broken asBound i (rw (eq-eqb tag 0x10 e, ne-eqb (length (slice from to bs)) 0 n))) }
+      record { lacks = ap firstOf (list-broken asBound i (rw (eq-eqb tag (boundTag Unbounded) e, ne-eqb (length (slice from to bs)) 0 n))) }
 
-  pub included-here : tag ≡ 0x11 → ItemAt boundList bs at 0x11 from to (included (slice from to bs))
+  pub included-here : tag ≡ boundTag Included → ItemAt boundList bs at (boundTag Included) from to (included (slice from to bs))
   unfolding asBound
-  included-here e = list-item asBound i 0x11 (included (slice from to bs)) e (rw e)
+  included-here e = list-item asBound i (boundTag Included) (included (slice from to bs)) e (rw e)
 
-  pub excluded-here : tag ≡ 0x12 → ItemAt boundList bs at 0x12 from to (excluded (slice from to bs))
+  pub excluded-here : tag ≡ boundTag Excluded → ItemAt boundList bs at (boundTag Excluded) from to (excluded (slice from to bs))
   unfolding asBound
-  excluded-here e = list-item asBound i 0x12 (excluded (slice from to bs)) e (rw e)
+  excluded-here e = list-item asBound i (boundTag Excluded) (excluded (slice from to bs)) e (rw e)
 
-  pub tag-unknown : (tag ≡ 0x10 → ⊥) → (tag ≡ 0x11 → ⊥) → (tag ≡ 0x12 → ⊥) → NoBoundAt bs at
+  pub tag-unknown : (tag ≡ boundTag Unbounded → ⊥) → (tag ≡ boundTag Included → ⊥) → (tag ≡ boundTag Excluded → ⊥) → NoBoundAt bs at
   unfolding asBound
-  tag-unknown e f g = record { lacks = ap firstOf (list-broken asBound i (rw (ne-eqb tag 0x10 e, ne-eqb tag 0x11 f, ne-eqb tag 0x12 g))) }
+  tag-unknown e f g = record { lacks = ap firstOf (list-broken asBound i (rw (ne-eqb tag (boundTag Unbounded) e, ne-eqb tag (boundTag Included) f, ne-eqb tag (boundTag Excluded) g))) }
 
 -- the two together
 no-pair : (o : Option (List Bound)) → firstOf o ≡ none → onSome o pairOf ≡ none
@@ -80,7 +81,7 @@ module _ (bs : List ℕ) where
       unfolding boundsOf
       both h = rw (i .reads, j .reads, drop-of-length-le bs h, list-nil asBound)
 
-pub bounds-here : (bs : List ℕ) (p : Places)
+pub bounds-here : (bs : List ℕ) (p : BoundPlaces)
     → ItemAt boundList bs 0 (boundTag (p .start)) (p .«start_from») (p .«start_to») (bound (p .start) (slice (p .«start_from») (p .«start_to») bs))
     → ItemAt boundList bs (p .«start_to») (boundTag (p .end)) (p .«end_from») (p .«end_to») (bound (p .end) (slice (p .«end_from») (p .«end_to») bs))
     → length bs ≤ p .«end_to»

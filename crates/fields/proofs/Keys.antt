@@ -12,7 +12,7 @@ use lib.ListN.{length, drop}
 use lib.Seq.{slice, length-slice}
 use Rattle.keys.specs.Limit.{keyLimit}
 use Rattle.fields.specs.declared.Form.{Form}
-use Rattle.fields.specs.Fields.{field, before, fields, asKey, keyList}
+use Rattle.fields.specs.Fields.{keyTag, field, before, fields, asKey, keyList}
 use Rattle.fields.specs.Forms.{ItemAt, EndAt, CutAt, NoKeyAt, shortKeys, formOf}
 use Rattle.fields.proofs.Lists.{list-nil, list-cut, list-item, list-broken}
 
@@ -20,17 +20,17 @@ pub keys-cut : {bs : List ℕ} {at : ℕ} → CutAt bs at → NoKeyAt bs at
 keys-cut b = record { left = b .left; wrong = inl (b .passes); breaks = list-cut asKey b }
 
 module _ {bs : List ℕ} {at tag from to : ℕ} (i : ItemAt fields bs at tag from to (field tag (slice from to bs))) where
-  pub key-here : tag ≡ 0x4b → ItemAt keyList bs at 0x4b from to (slice from to bs)
+  pub key-here : tag ≡ keyTag → ItemAt keyList bs at keyTag from to (slice from to bs)
   unfolding asKey
-  key-here e = list-item asKey i 0x4b (slice from to bs) e (rw (eq-eqb tag 0x4b e))
+  key-here e = list-item asKey i keyTag (slice from to bs) e (rw (eq-eqb tag keyTag e))
 
-  pub key-broken : (tag ≡ 0x4b → ⊥) → NoKeyAt bs at
+  pub key-broken : (tag ≡ keyTag → ⊥) → NoKeyAt bs at
   unfolding asKey
   key-broken e =
       record {
         left = omega (arith, i .begins, i .ends, i .within);
         wrong = inr (λ z. e (i .tagged ∙ z));
-        breaks = list-broken asKey i (rw (ne-eqb tag 0x4b e));
+        breaks = list-broken asKey i (rw (ne-eqb tag keyTag e));
       }
 
 -- the verdict on what is left of a list, by whether the keys before it were short
@@ -56,7 +56,7 @@ module _ (bs : List ℕ) (at : ℕ) (short : Bool) where
   pub form-bad : NoKeyAt bs at → formAfter short (keyList (drop at bs)) ≡ Form.Malformed
   form-bad b = rw (b .breaks)
 
-  module _ (from to : ℕ) (i : ItemAt keyList bs at 0x4b from to (slice from to bs)) where
+  module _ (from to : ℕ) (i : ItemAt keyList bs at keyTag from to (slice from to bs)) where
     pub form-long : keyLimit < to - from → formAfter short (keyList (drop at bs)) ≡ formAfter false (keyList (drop to bs))
     form-long h =
         let n : leb (length (slice from to bs)) keyLimit ≡ false = lt-leb (length (slice from to bs)) keyLimit (rw (length-slice from to bs (i .within)) h) in

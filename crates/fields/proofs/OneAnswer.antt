@@ -15,8 +15,9 @@ use Rattle.bounds.specs.Ranges.{range}
 use Rattle.ranges.specs.Made.{kindOf}
 use Rattle.fields.specs.declared.FieldAt.{FieldAt}
 use Rattle.fields.specs.declared.NextKey.{NextKey}
-use Rattle.fields.specs.declared.Places.{Places}
+use Rattle.fields.specs.declared.BoundPlaces.{BoundPlaces}
 use Rattle.fields.specs.declared.ReadBounds.{ReadBounds}
+use Rattle.fields.specs.Fields.{fieldHead, keyTag}
 use Rattle.fields.specs.Forms.{ItemAt, EndAt, FieldIs, NextIs, BoundsAre, sizeAt}
 use Rattle.fields.proofs.field_at.Kinds as field-at-kinds
 use Rattle.fields.proofs.field_at.Reads as field-at
@@ -36,10 +37,10 @@ module _ (bs : List ℕ) (at : ℕ) where
     not-over : EndAt bs at → ⊥
     not-over = left-over (omega (arith, i))
 
-    not-cut : length bs < at + 3 + sizeAt bs at → ⊥
+    not-cut : length bs < at + fieldHead + sizeAt bs at → ⊥
     not-cut h = omega (arith, i)
 
-    not-wrong : tag ≡ 0x4b → (length bs < at + 3 + sizeAt bs at) ⊎ (getD bs at 0 ≡ 0x4b → ⊥) → ⊥
+    not-wrong : tag ≡ keyTag → (length bs < at + fieldHead + sizeAt bs at) ⊎ (getD bs at 0 ≡ keyTag → ⊥) → ⊥
     not-wrong e (inl h) = not-cut h
     not-wrong e (inr h) = h (sym (i .tagged) ∙ e)
 
@@ -86,7 +87,7 @@ same-kinds k l k′ l′ x y x′ y′ e =
     let f = Option·some-injective (range (bound k x) (bound l y)) (range (bound k′ x′) (bound l′ y′)) e in
     (sym (kind-of-bound k x) ∙ ap (λ r. kindOf (r .start)) f ∙ kind-of-bound k′ x′, sym (kind-of-bound l y) ∙ ap (λ r. kindOf (r .end)) f ∙ kind-of-bound l′ y′)
 
-same-places : (p q : Places)
+same-places : (p q : BoundPlaces)
     → p .start ≡ q .start
     → p .«start_from» ≡ q .«start_from»
     → p .«start_to» ≡ q .«start_to»

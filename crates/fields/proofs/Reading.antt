@@ -1,5 +1,5 @@
 -- The field at a place, by the bytes that stand there.
-use Prim.Native.Nat.{ℕ, suc, _+_, _-_, _*_, _≤_, _<_}
+use Prim.Native.Nat.{ℕ, suc, _+_, _-_, _≤_, _<_}
 use mathlib.Core.Path.{_≡_, refl, sym, ap, _∙_}
 use mathlib.Core.Bool.{cond}
 use mathlib.Core.List.{List, _∷_}
@@ -9,7 +9,7 @@ use borrow.Author.Tests.{le-leb, lt-leb}
 use lib.Dec.{leb}
 use lib.ListN.{length, take, drop, getD, length-drop, drop-of-length-le}
 use lib.Seq.{slice, drop-cons, drop-drop, drop-at, take-add, length-take-le}
-use Rattle.fields.specs.Fields.{field, before, fields}
+use Rattle.fields.specs.Fields.{fieldHead, sizeOf, field, before, fields}
 use Rattle.fields.specs.Forms.{ItemAt, EndAt, CutAt, sizeAt}
 use Rattle.fields.proofs.Steps.{fields-short, fields-step}
 
@@ -24,47 +24,47 @@ module _ (bs : List ℕ) (at : ℕ) where
   pub ends-at : length bs ≤ at → EndAt bs at
   ends-at h = record { ends = drop-of-length-le bs h }
 
-  pub head-cut : at < length bs → length bs - at < 3 → CutAt bs at
+  pub head-cut : at < length bs → length bs - at < fieldHead → CutAt bs at
   head-cut h k = record { left = h; passes = omega arith; breaks = fields-short (drop at bs) (rw length-drop (omega arith)) (rw length-drop (omega arith)) }
 
-  module _ (h l : ℕ) (room : at + 3 ≤ length bs) (high : h ≡ getD bs (at + 1) 0) (low : l ≡ getD bs (at + 2) 0) where
-    head-bytes : drop at bs ≡ getD bs at 0 ∷ h ∷ l ∷ drop (at + 3) bs
+  module _ (h l : ℕ) (room : at + fieldHead ≤ length bs) (high : h ≡ getD bs (at + 1) 0) (low : l ≡ getD bs (at + 2) 0) where
+    head-bytes : drop at bs ≡ getD bs at 0 ∷ h ∷ l ∷ drop (at + fieldHead) bs
     head-bytes =
         rw (
           byte bs at (at + 1) (omega arith) (omega arith),
           byte bs (at + 1) (at + 2) (omega arith) (omega arith),
-          byte bs (at + 2) (at + 3) (omega arith) (omega arith),
+          byte bs (at + 2) (at + fieldHead) (omega arith) (omega arith),
           high,
           low,
         )
 
     step-at : fields (drop at bs)
         ≡ cond
-        (leb (h * 256 + l) (length (drop (at + 3) bs)))
-        (before (field (getD bs at 0) (take (h * 256 + l) (drop (at + 3) bs))) (fields (drop (h * 256 + l) (drop (at + 3) bs))))
+        (leb (sizeOf h l) (length (drop (at + fieldHead) bs)))
+        (before (field (getD bs at 0) (take (sizeOf h l) (drop (at + fieldHead) bs))) (fields (drop (sizeOf h l) (drop (at + fieldHead) bs))))
         none
-    step-at = ap fields head-bytes ∙ fields-step (getD bs at 0) h l (drop (at + 3) bs)
+    step-at = ap fields head-bytes ∙ fields-step (getD bs at 0) h l (drop (at + fieldHead) bs)
 
-    size-here : h * 256 + l ≡ sizeAt bs at
+    size-here : sizeOf h l ≡ sizeAt bs at
     unfolding sizeAt
     size-here = rw (high, low)
 
-    pub payload-cut : length bs - (at + 3) < h * 256 + l → CutAt bs at
-    payload-cut k = record { left = omega arith; passes = omega (arith, size-here); breaks = step-at ∙ rw (lt-leb (h * 256 + l) (length (drop (at + 3) bs)) (rw length-drop k)) }
+    pub payload-cut : length bs - (at + fieldHead) < sizeOf h l → CutAt bs at
+    payload-cut k = record { left = omega arith; passes = omega (arith, size-here); breaks = step-at ∙ rw (lt-leb (sizeOf h l) (length (drop (at + fieldHead) bs)) (rw length-drop k)) }
 
-    pub field-here : h * 256 + l ≤ length bs - (at + 3)
-        → ItemAt fields bs at (getD bs at 0) (at + 3) (at + 3 + (h * 256 + l)) (field (getD bs at 0) (slice (at + 3) (at + 3 + (h * 256 + l)) bs))
+    pub field-here : sizeOf h l ≤ length bs - (at + fieldHead)
+        → ItemAt fields bs at (getD bs at 0) (at + fieldHead) (at + fieldHead + (sizeOf h l)) (field (getD bs at 0) (slice (at + fieldHead) (at + fieldHead + (sizeOf h l)) bs))
     field-here k =
         record {
           tagged = refl;
           begins = refl;
-          ends = ap (λ n. at + 3 + n) size-here;
+          ends = ap (λ n. at + fieldHead + n) size-here;
           within = omega arith;
           reads =
               step-at
               ∙ rw (
-                le-leb (h * 256 + l) (length (drop (at + 3) bs)) (rw length-drop k),
-                take-of-drop (at + 3) (h * 256 + l) bs room,
-                drop-drop (h * 256 + l) (at + 3) bs,
+                le-leb (sizeOf h l) (length (drop (at + fieldHead) bs)) (rw length-drop k),
+                take-of-drop (at + fieldHead) (sizeOf h l) bs room,
+                drop-drop (sizeOf h l) (at + fieldHead) bs,
               );
         }

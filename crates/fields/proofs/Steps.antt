@@ -1,5 +1,5 @@
 -- The fields of a byte string, one at a time.
-use Prim.Native.Nat.{ℕ, zero, suc, _+_, _*_, _≤_, _<_}
+use Prim.Native.Nat.{ℕ, zero, suc, _≤_, _<_}
 use mathlib.Core.Path.{_≡_, refl, sym, ap, _∙_}
 use mathlib.Core.Bool.{Bool, true, false, cond}
 use mathlib.Core.List.{List, [], _∷_, cons-ne-nil}
@@ -7,7 +7,7 @@ use mathlib.Core.Option.{Option, none, some, Option·none-ne-some, Option·some-
 use native.Mathlib.Omega.{arith}
 use lib.Dec.{leb}
 use lib.ListN.{length, take, drop, length-drop}
-use Rattle.fields.specs.Fields.{Field, field, cut, first, headed, before, fieldsFrom, fieldsIn, fields}
+use Rattle.fields.specs.Fields.{fieldHead, sizeOf, Field, field, cut, first, headed, before, fieldsFrom, fieldsIn, fields}
 
 -- a field, if the payload has the length that its head says, before what follows it
 abbrev afterHead : ℕ → ℕ → List ℕ → Option (List Field) → Option (List Field)
@@ -32,15 +32,15 @@ enough (suc m) zero (t ∷ bs) h k = absurd (omega arith)
 enough (suc m) (suc n) (t ∷ []) h k = refl
 enough (suc m) (suc n) (t ∷ x ∷ []) h k = refl
 enough (suc m) (suc n) (t ∷ x ∷ l ∷ bs) h k =
-    from-headed t (x * 256 + l) bs (fieldsIn m)
-    ∙ ap (afterHead t (x * 256 + l) bs) (enough m n (drop (x * 256 + l) bs) (simp length-drop (omega arith)) (simp length-drop (omega arith)))
-    ∙ sym (from-headed t (x * 256 + l) bs (fieldsIn n))
+    from-headed t (sizeOf x l) bs (fieldsIn m)
+    ∙ ap (afterHead t (sizeOf x l) bs) (enough m n (drop (sizeOf x l) bs) (simp length-drop (omega arith)) (simp length-drop (omega arith)))
+    ∙ sym (from-headed t (sizeOf x l) bs (fieldsIn n))
 
 pub fields-nil : fields [] ≡ some []
 unfolding fields fieldsIn
 fields-nil = refl
 
-pub fields-short : (bs : List ℕ) → 0 < length bs → length bs < 3 → fields bs ≡ none
+pub fields-short : (bs : List ℕ) → 0 < length bs → length bs < fieldHead → fields bs ≡ none
 unfolding fields fieldsIn
 fields-short [] h k = absurd (omega arith)
 fields-short (t ∷ []) h k = refl
@@ -50,15 +50,15 @@ fields-short (t ∷ x ∷ l ∷ bs) h k = absurd (omega arith)
 pub fields-step : (t h l : ℕ) (bs : List ℕ)
     → fields (t ∷ h ∷ l ∷ bs)
     ≡ cond
-    (leb (h * 256 + l) (length bs))
-    (before (field t (take (h * 256 + l) bs)) (fields (drop (h * 256 + l) bs)))
+    (leb (sizeOf h l) (length bs))
+    (before (field t (take (sizeOf h l) bs)) (fields (drop (sizeOf h l) bs)))
     none
 unfolding fields fieldsIn
 fields-step t h l bs =
-    from-headed t (h * 256 + l) bs (fieldsIn (suc (suc (length bs))))
+    from-headed t (sizeOf h l) bs (fieldsIn (suc (suc (length bs))))
     ∙ ap
-    (afterHead t (h * 256 + l) bs)
-    (enough (suc (suc (length bs))) (length (drop (h * 256 + l) bs)) (drop (h * 256 + l) bs) (simp length-drop (omega arith)) (omega arith))
+    (afterHead t (sizeOf h l) bs)
+    (enough (suc (suc (length bs))) (length (drop (sizeOf h l) bs)) (drop (sizeOf h l) bs) (simp length-drop (omega arith)) (omega arith))
 
 pub before-some : {A : Type 0} (a : A) (o : Option (List A)) → before a o ≡ some [] → ⊥
 before-some a none e = Option·none-ne-some [] e
@@ -69,8 +69,8 @@ pub fields-more : (bs : List ℕ) → 0 < length bs → fields bs ≡ some [] �
 fields-more [] h e = absurd (omega arith)
 fields-more (t ∷ []) h e = Option·none-ne-some [] (sym (fields-short (t ∷ []) h (omega arith)) ∙ e)
 fields-more (t ∷ x ∷ []) h e = Option·none-ne-some [] (sym (fields-short (t ∷ x ∷ []) h (omega arith)) ∙ e)
-fields-more (t ∷ x ∷ l ∷ bs) h e = go (leb (x * 256 + l) (length bs)) (sym (fields-step t x l bs) ∙ e)
+fields-more (t ∷ x ∷ l ∷ bs) h e = go (leb (sizeOf x l) (length bs)) (sym (fields-step t x l bs) ∙ e)
   where
-    go : (b : Bool) → cond b (before (field t (take (x * 256 + l) bs)) (fields (drop (x * 256 + l) bs))) none ≡ some [] → ⊥
-    go true z = before-some (field t (take (x * 256 + l) bs)) (fields (drop (x * 256 + l) bs)) z
+    go : (b : Bool) → cond b (before (field t (take (sizeOf x l) bs)) (fields (drop (sizeOf x l) bs))) none ≡ some [] → ⊥
+    go true z = before-some (field t (take (sizeOf x l) bs)) (fields (drop (sizeOf x l) bs)) z
     go false z = Option·none-ne-some [] z

@@ -11,7 +11,7 @@ use lib.Dec.{leb}
 use lib.ListN.{length, take, drop, length-append, take-append-drop}
 use lib.Seq.{length-take-le, take-append-seam, drop-append-seam}
 use Rattle.ranges.specs.Bytes.{Bytes}
-use Rattle.fields.specs.Fields.{Field, field, before, fields, encode, AllWritable}
+use Rattle.fields.specs.Fields.{sizeOf, Field, field, before, fields, encode, AllWritable}
 use Rattle.fields.proofs.Steps.{fields-nil, fields-short, fields-step, fields-more}
 
 -- what the definition accepts is not refused: every list of fields is read back from its bytes
@@ -31,16 +31,16 @@ record First (bs : List ℕ) (f : Field) (fs : List Field) : Type 0 where
   low : ℕ
   rest : List ℕ
   stands : bs ≡ f .tag ∷ high ∷ low ∷ (f .payload ++ rest)
-  sized : high * 256 + low ≡ length (f .payload)
+  sized : sizeOf high low ≡ length (f .payload)
   others : fields rest ≡ some fs
 
 first-here : (t h l : ℕ) (bs : List ℕ) (f : Field) (fs : List Field)
-    → h * 256 + l ≤ length bs
-    → field t (take (h * 256 + l) bs) ≡ f
-    → fields (drop (h * 256 + l) bs) ≡ some fs
+    → sizeOf h l ≤ length bs
+    → field t (take (sizeOf h l) bs) ≡ f
+    → fields (drop (sizeOf h l) bs) ≡ some fs
     → First (t ∷ h ∷ l ∷ bs) f fs
 first-here t h l bs f fs k e g =
-    let n = h * 256 + l in
+    let n = sizeOf h l in
     record {
       high = h;
       low = l;
@@ -59,7 +59,7 @@ first (t ∷ h ∷ []) f fs e = absurd (Option·none-ne-some (f ∷ fs) (sym (fi
 first (t ∷ h ∷ l ∷ bs) f fs e = go (leb n (length bs)) refl (fields (drop n bs)) refl (sym (fields-step t h l bs) ∙ e)
   where
     n : ℕ
-    n = h * 256 + l
+    n = sizeOf h l
 
     go : (b : Bool) → leb n (length bs) ≡ b → (o : Option (List Field)) → fields (drop n bs) ≡ o → cond b (before (field t (take n bs)) o) none ≡ some (f ∷ fs) → First (t ∷ h ∷ l ∷ bs) f fs
     go true k none g z = absurd (Option·none-ne-some (f ∷ fs) z)

@@ -6,6 +6,8 @@ use mathlib.Core.Option.{Option, none, some}
 use lib.Dec.{leb, eqb}
 use lib.ListN.{length, take, drop}
 use Rattle.kinds.specs.Bounds.{Bound, unbounded, included, excluded}
+use Rattle.kinds.specs.declared.kind.Kind.{Kind}
+use Rattle.kinds.specs.declared.kind.Kind.the-variants.{Unbounded, Included, Excluded}
 use Rattle.bounds.specs.Ranges.{Range, range}
 use Rattle.ranges.specs.Bytes.{Bytes}
 
@@ -15,6 +17,23 @@ pub record Field : Type 0 where
 
 abbrev pub field : ℕ → List ℕ → Field
 field t p = record { tag = t; payload = p }
+
+-- a field's tag and length take so many bytes
+abbrev pub fieldHead : ℕ
+fieldHead = 3
+
+-- the length that two bytes say, the high one first
+abbrev pub sizeOf : ℕ → ℕ → ℕ
+sizeOf h l = h * 256 + l
+
+-- document 01's tag of a key, and of each kind of bound
+abbrev pub keyTag : ℕ
+keyTag = 0x4b
+
+abbrev pub boundTag : Kind → ℕ
+boundTag Unbounded = 0x10
+boundTag Included = 0x11
+boundTag Excluded = 0x12
 
 -- "Field: one-byte tag, two-byte big-endian length, payload": what stands at the front of some bytes. No bytes; a tag whose
 -- length is not all there; a tag and the length that it says, whose payload is not all there; a field, and what follows it
@@ -31,7 +50,7 @@ abbrev pub front : List ℕ → Front
 front [] = empty
 front (t ∷ []) = begun t
 front (t ∷ h ∷ []) = begun t
-front (t ∷ h ∷ l ∷ bs) = headed t (h * 256 + l) bs
+front (t ∷ h ∷ l ∷ bs) = headed t (sizeOf h l) bs
 
 abbrev pub before : {A : Type 0} → A → Option (List A) → Option (List A)
 before x none = none
@@ -79,7 +98,7 @@ unfoldable pub fieldsAs : {A : Type 0} → (Field → Option A) → List ℕ →
 fieldsAs read bs = onSome (fields bs) (each read)
 
 unfoldable pub asKey : Field → Option (List ℕ)
-asKey f = cond (eqb (f .tag) 0x4b) (some (f .payload)) none
+asKey f = cond (eqb (f .tag) keyTag) (some (f .payload)) none
 
 -- "Key list: fields of tag 4B, to the end."
 abbrev pub keyList : List ℕ → Option (List (List ℕ))
@@ -89,12 +108,12 @@ keyList = fieldsAs asKey
 unfoldable pub asBound : Field → Option Bound
 asBound f =
     cond
-    (eqb (f .tag) 0x10)
+    (eqb (f .tag) (boundTag Unbounded))
     (cond (eqb (length (f .payload)) 0) (some unbounded) none)
     (cond
-    (eqb (f .tag) 0x11)
+    (eqb (f .tag) (boundTag Included))
     (some (included (f .payload)))
-    (cond (eqb (f .tag) 0x12) (some (excluded (f .payload))) none))
+    (cond (eqb (f .tag) (boundTag Excluded)) (some (excluded (f .payload))) none))
 
 abbrev pub boundList : List ℕ → Option (List Bound)
 boundList = fieldsAs asBound

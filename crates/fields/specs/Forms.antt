@@ -1,5 +1,5 @@
 -- What the readers of fields, key lists and bounds answer, case by case.
-use Prim.Native.Nat.{ℕ, _+_, _*_, _≤_, _<_}
+use Prim.Native.Nat.{ℕ, _+_, _≤_, _<_}
 use mathlib.Core.Path.{_≡_}
 use mathlib.Core.Bool.{Bool, true, cond, _&&_}
 use mathlib.Core.List.{List, [], _∷_}
@@ -10,26 +10,25 @@ use lib.ListN.{length, drop, getD}
 use lib.Seq.{slice}
 use Rattle.keys.specs.Limit.{keyLimit}
 use Rattle.kinds.specs.Bounds.{bound}
-use Rattle.kinds.specs.declared.kind.Kind.{Kind}
-use Rattle.kinds.specs.declared.kind.Kind.the-variants.{Unbounded, Included, Excluded}
 use Rattle.bounds.specs.Ranges.{range}
 use Rattle.fields.specs.declared.FieldAt.{FieldAt}
 use Rattle.fields.specs.declared.NextKey.{NextKey}
 use Rattle.fields.specs.declared.Form.{Form}
 use Rattle.fields.specs.declared.BoundAt.{BoundAt}
-use Rattle.fields.specs.declared.Places.{Places}
+use Rattle.fields.specs.declared.BoundPlaces.{BoundPlaces}
 use Rattle.fields.specs.declared.ReadBounds.{ReadBounds}
-use Rattle.fields.specs.Fields.{field, fields, before, keyList, boundList, boundsOf}
+use Rattle.fields.specs.Fields.{fieldHead, sizeOf, keyTag, field, fields, before, keyList, boundList, boundsOf}
+pub use Rattle.fields.specs.Fields.{boundTag}
 
--- the length that the two bytes behind a tag say, the high one first; bytes past the end count as 0
+-- the length that the two bytes behind a tag say; bytes past the end count as 0
 unfoldable pub sizeAt : List ℕ → ℕ → ℕ
-sizeAt bs at = getD bs (at + 1) 0 * 256 + getD bs (at + 2) 0
+sizeAt bs at = sizeOf (getD bs (at + 1) 0) (getD bs (at + 2) 0)
 
 -- what a reader of lists finds at a place: a whole field with its tag, and its first item, whose payload ends where the
 -- list goes on
 pub record ItemAt {A : Type 0} (list : List ℕ → Option (List A)) (bs : List ℕ) (at tag from to : ℕ) (a : A) : Type 0 where
   pub tagged : tag ≡ getD bs at 0
-  pub begins : from ≡ at + 3
+  pub begins : from ≡ at + fieldHead
   pub ends : to ≡ from + sizeAt bs at
   pub within : to ≤ length bs
   pub reads : list (drop at bs) ≡ before a (list (drop to bs))
@@ -40,7 +39,7 @@ pub record EndAt (bs : List ℕ) (at : ℕ) : Type 0 where
 -- the bytes end within the field at a place, in its head or in its payload
 pub record CutAt (bs : List ℕ) (at : ℕ) : Type 0 where
   pub left : at < length bs
-  pub passes : length bs < at + 3 + sizeAt bs at
+  pub passes : length bs < at + fieldHead + sizeAt bs at
   pub breaks : fields (drop at bs) ≡ none
 
 abbrev pub FieldIs : List ℕ → ℕ → FieldAt → Type 0
@@ -51,11 +50,11 @@ FieldIs bs at FieldAt.Cut = CutAt bs at
 -- the bytes end within the field at a place, or its tag is not a key's
 pub record NoKeyAt (bs : List ℕ) (at : ℕ) : Type 0 where
   pub left : at < length bs
-  pub wrong : (length bs < at + 3 + sizeAt bs at) ⊎ (getD bs at 0 ≡ 0x4b → ⊥)
+  pub wrong : (length bs < at + fieldHead + sizeAt bs at) ⊎ (getD bs at 0 ≡ keyTag → ⊥)
   pub breaks : keyList (drop at bs) ≡ none
 
 abbrev pub NextIs : List ℕ → ℕ → NextKey → Type 0
-NextIs bs at (NextKey.Key from to) = ItemAt keyList bs at 0x4b from to (slice from to bs)
+NextIs bs at (NextKey.Key from to) = ItemAt keyList bs at keyTag from to (slice from to bs)
 NextIs bs at NextKey.End = EndAt bs at
 NextIs bs at NextKey.Bad = NoKeyAt bs at
 
@@ -78,21 +77,15 @@ firstOf (some (a ∷ as′)) = some a
 pub record NoBoundAt (bs : List ℕ) (at : ℕ) : Type 0 where
   pub lacks : firstOf (boundList (drop at bs)) ≡ none
 
--- document 01's tag of each kind of bound
-abbrev pub boundTag : Kind → ℕ
-boundTag Unbounded = 0x10
-boundTag Included = 0x11
-boundTag Excluded = 0x12
-
-abbrev pub BoundIs : List ℕ → ℕ → BoundAt → Type 0
-BoundIs bs at (BoundAt.Found kind from to) = ItemAt boundList bs at (boundTag kind) from to (bound kind (slice from to bs))
-BoundIs bs at BoundAt.NoBound = NoBoundAt bs at
+abbrev pub BoundFieldIs : List ℕ → ℕ → BoundAt → Type 0
+BoundFieldIs bs at (BoundAt.Found kind from to) = ItemAt boundList bs at (boundTag kind) from to (bound kind (slice from to bs))
+BoundFieldIs bs at BoundAt.NoBound = NoBoundAt bs at
 
 -- the two bounds by the places of their keys: two fields, and nothing behind them
-pub record BoundsAt (bs : List ℕ) (p : Places) : Type 0 where
-  pub start-begins : p .«start_from» ≡ 3
+pub record BoundsAt (bs : List ℕ) (p : BoundPlaces) : Type 0 where
+  pub start-begins : p .«start_from» ≡ fieldHead
   pub start-ends : p .«start_to» ≡ p .«start_from» + sizeAt bs 0
-  pub end-begins : p .«end_from» ≡ p .«start_to» + 3
+  pub end-begins : p .«end_from» ≡ p .«start_to» + fieldHead
   pub end-ends : p .«end_to» ≡ p .«end_from» + sizeAt bs (p .«start_to»)
   pub whole : p .«end_to» ≡ length bs
   pub reads : boundsOf bs ≡ some (range (bound (p .start) (slice (p .«start_from») (p .«start_to») bs)) (bound (p .end) (slice (p .«end_from») (p .«end_to») bs)))

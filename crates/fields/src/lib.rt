@@ -2,12 +2,14 @@
 ghost use mathlib.Core.Path.{_≡_};
 ghost use Prim.Native.Nat.{_<_};
 ghost use Rattle.fields.specs.Fields.{keyList};
-ghost use Rattle.fields.specs.Forms.{FieldIs, NextIs, formOf, BoundIs, BoundsAre};
+ghost use Rattle.fields.specs.Forms.{FieldIs, NextIs, formOf, BoundFieldIs, BoundsAre};
 use keys::KEY_LIMIT;
 use kinds::kind::Kind;
 
-const KEY: u8 = 0x4b;
+// The tag of a key.
+pub const KEY: u8 = 0x4b;
 
+// The tags of the three kinds of bounds.
 pub const UNBOUNDED: u8 = 0x10;
 
 pub const INCLUDED: u8 = 0x11;
@@ -15,7 +17,7 @@ pub const INCLUDED: u8 = 0x11;
 pub const EXCLUDED: u8 = 0x12;
 
 // A field's tag and length take this many bytes.
-const HEAD: usize = 3;
+pub const FIELD_HEAD: usize = 3;
 
 // The field at a place, its payload from one index to before another.
 pub enum FieldAt {
@@ -37,15 +39,15 @@ pub fn field_at(bytes: &[u8], at: usize) -> FieldAt
         return FieldAt::End;
     }
     let left = bytes.len() - at;
-    if left < HEAD {
+    if left < FIELD_HEAD {
         return FieldAt::Cut;
     }
     let n = wide(bytes[at + 1]) * 256 + wide(bytes[at + 2]);
-    if left - HEAD < n {
+    if left - FIELD_HEAD < n {
         return FieldAt::Cut;
     }
     let tag = bytes[at];
-    let from = at + HEAD;
+    let from = at + FIELD_HEAD;
     let to = from + n;
     FieldAt::At { tag, from, to }
 }
@@ -111,7 +113,7 @@ enum BoundAt {
 }
 
 fn bound_at(bytes: &[u8], at: usize) -> BoundAt
-    ensures { λ r. ⌜ BoundIs (now (bytes .entry)) at r ⌝ }
+    ensures { λ r. ⌜ BoundFieldIs (now (bytes .entry)) at r ⌝ }
 {
     match field_at(bytes, at) {
         FieldAt::At { tag, from, to } => {
@@ -135,7 +137,7 @@ fn bound_at(bytes: &[u8], at: usize) -> BoundAt
 }
 
 // Two bounds with the places of their keys.
-pub struct Places {
+pub struct BoundPlaces {
     pub start: Kind,
     pub start_from: usize,
     pub start_to: usize,
@@ -145,7 +147,7 @@ pub struct Places {
 }
 
 pub enum ReadBounds {
-    Bounds(Places),
+    Bounds(BoundPlaces),
     NoBounds,
 }
 
@@ -162,7 +164,7 @@ pub fn read_bounds(bytes: &[u8]) -> ReadBounds
     if end_to < bytes.len() {
         return ReadBounds::NoBounds;
     }
-    ReadBounds::Bounds(Places {
+    ReadBounds::Bounds(BoundPlaces {
         start,
         start_from,
         start_to,

@@ -13,6 +13,7 @@ pub enum Kind {
 impl Kind {
     pub const UNBOUNDED: Kind = Kind::Unbounded;
 
+    // The values by name, as document 01 has them, for callers; code that tells kinds apart names the variants.
     pub fn unbounded() -> Self
         ensures { λ r. ⌜ r ≡ Kind.Unbounded ⌝ }
     {

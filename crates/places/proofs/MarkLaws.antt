@@ -12,7 +12,7 @@ use Rattle.bounds.specs.declared.comparable_range.ComparableRange.{ComparableRa
 use Rattle.kinds.specs.declared.kind.Kind.{Kind}
 use Rattle.kinds.specs.declared.kind.Kind.the-variants.{Unbounded, Included, Excluded}
 use Rattle.ranges.specs.Made.{keyOf, kindOf}
-use Rattle.fields.specs.Forms.{boundTag}
+use Rattle.fields.specs.Fields.{boundTag}
 use Rattle.machine.specs.State.{Bytes, base}
 use Rattle.machine.specs.Sets.{equal}
 use Rattle.codec.proofs.NumberLaws.{stands-number}
@@ -60,7 +60,7 @@ is-key s c r k b n h = record { is = λ m e p. h ∙ ap (equal k) (key-part s (c
 
 -- the kind of a tag
 abbrev pub tagKind : ℕ → Kind
-tagKind t = cond (eqb t 0x10) Unbounded (cond (eqb t 0x11) Included Excluded)
+tagKind t = cond (eqb t (boundTag Unbounded)) Unbounded (cond (eqb t (boundTag Included)) Included Excluded)
 
 tag-kind : (k : Kind) → tagKind (boundTag k) ≡ k
 tag-kind Unbounded = refl

@@ -1,5 +1,4 @@
 // The library's answer to each op, as a line.
-use crate::field::KEY;
 use crate::text::put;
 use crate::text::put_bound;
 use crate::text::put_bounds;
@@ -9,6 +8,7 @@ use crate::text::put_status;
 use crate::text::put_test;
 use bounds::comparable_range::ComparableRange;
 use bounds::sides::Combined;
+use fields::KEY;
 use keys::KEY_LIMIT;
 use ranges::bytes_range::BytesRange;
 use ranges::bytes_range::MadeRange;

@@ -1,18 +1,13 @@
 // Fields: a tag, a length of two bytes, the payload.
-ghost use Prim.Native.Nat.{_<_};
-ghost use mathlib.Core.Path.{_≡_};
-ghost use Rattle.sample.specs.Places.{Within};
+ghost use Rattle.sample.specs.Fields.{Within};
+use fields::EXCLUDED;
+use fields::FieldAt;
+use fields::INCLUDED;
+use fields::KEY;
+use fields::UNBOUNDED;
 use kinds::kind::Kind;
 
-pub const KEY: u8 = 0x4b;
-
-pub const UNBOUNDED: u8 = 0x10;
-
-pub const INCLUDED: u8 = 0x11;
-
-pub const EXCLUDED: u8 = 0x12;
-
-// No field has this tag: it stands for one that is cut.
+// No field has this tag: it stands for one that is cut or not there.
 const CUT: u8 = 0;
 
 // A field's tag, and where in the queries its payload begins and ends.
@@ -45,12 +40,6 @@ impl Field {
     }
 }
 
-fn wide(byte: u8) -> usize
-    ensures { λ r. ⌜ (r ≡ byte) × (r < 256) ⌝ }
-{
-    byte as usize
-}
-
 pub fn field_at(queries: &[u8], at: usize) -> Field
     ensures { λ r. ⌜ Within r (now (queries .entry)) ⌝ }
 {
@@ -59,23 +48,10 @@ pub fn field_at(queries: &[u8], at: usize) -> Field
         from: 0,
         to: 0,
     };
-    let n = queries.len();
-    if n <= at {
+    let FieldAt::At { tag, from, to } = fields::field_at(queries, at) else {
         return cut;
-    }
-    if n - at < 3 {
-        return cut;
-    }
-    let from = at + 3;
-    let size = wide(queries[at + 1]) * 256 + wide(queries[at + 2]);
-    if n - from < size {
-        return cut;
-    }
-    Field {
-        tag: queries[at],
-        from,
-        to: from + size,
-    }
+    };
+    Field { tag, from, to }
 }
 
 pub fn payload(queries: &[u8], field: Field) -> &[u8]

@@ -1,7 +1,7 @@
 // Lines of answers, written to standard output in parts.
-use crate::field::EXCLUDED;
-use crate::field::INCLUDED;
-use crate::field::UNBOUNDED;
+use fields::EXCLUDED;
+use fields::INCLUDED;
+use fields::UNBOUNDED;
 use kinds::kind::Kind;
 use libc::STDOUT_FILENO;
 use ranges::made::Making;

@@ -14,7 +14,7 @@ use Rattle.ranges.specs.declared.made.Making.{Making}
 use Rattle.ranges.specs.declared.made.Making.the-variants.{Done, TooLong, Empty}
 use Rattle.ranges.specs.Made.{isDone, status}
 use Rattle.stranvek.specs.declared.boundary.NewRange.{NewRange}
-use Rattle.stranvek.specs.Boundary.{kindNumber}
+use Rattle.fields.specs.Fields.{boundTag}
 use Rattle.stranvek.specs.Answers.{compared, newRange}
 
 abbrev answer : ℤ → Compared
@@ -27,7 +27,7 @@ compare-answer o e = ap (λ z. answer (toZ w8 (ofZ w8 z))) e ∙ ap answer (kept
 abbrev pub bounded : ℕ → ℕ → ℕ → NewRange
 bounded n s e = record { status = n; «start_kind» = s; «end_kind» = e }
 
-pub new-done : (m : Making) (a b : Kind) → isDone m ≡ true → bounded 0 (kindNumber a) (kindNumber b) ≡ newRange m a b
+pub new-done : (m : Making) (a b : Kind) → isDone m ≡ true → bounded 0 (boundTag a) (boundTag b) ≡ newRange m a b
 new-done Done a b e = refl
 new-done TooLong a b e = cc
 new-done Empty a b e = cc

@@ -12,7 +12,8 @@ use Rattle.stranvek.specs.declared.boundary.Compared.{Compared}
 use Rattle.stranvek.specs.declared.boundary.Told.{Told}
 use Rattle.stranvek.specs.declared.boundary.NewRange.{NewRange}
 use Rattle.stranvek.specs.declared.boundary.MadeKey.{MadeKey}
-use Rattle.stranvek.specs.Boundary.{kindNumber, key}
+use Rattle.fields.specs.Fields.{boundTag}
+use Rattle.stranvek.specs.Boundary.{key}
 
 -- "always have status 0"
 abbrev pub compared : Ordering → Compared
@@ -23,10 +24,10 @@ told b = record { status = 0; holds = b }
 
 -- "length 0 and unbounded when refused"
 abbrev pub refusedRange : Making → NewRange
-refusedRange m = record { status = status m; «start_kind» = kindNumber Unbounded; «end_kind» = kindNumber Unbounded }
+refusedRange m = record { status = status m; «start_kind» = boundTag Unbounded; «end_kind» = boundTag Unbounded }
 
 abbrev pub newRange : Making → Kind → Kind → NewRange
-newRange Done a b = record { status = status Done; «start_kind» = kindNumber a; «end_kind» = kindNumber b }
+newRange Done a b = record { status = status Done; «start_kind» = boundTag a; «end_kind» = boundTag b }
 newRange TooLong a b = refusedRange TooLong
 newRange Empty a b = refusedRange Empty
 

@@ -16,21 +16,17 @@ use Rattle.bounds.specs.Sides.{sided}
 use Rattle.ranges.specs.declared.made.MadeBound.{MadeBound}
 use Rattle.ranges.specs.declared.bytes_range.MadeRange.{MadeRange}
 use Rattle.ranges.specs.Made.{status}
+use Rattle.fields.specs.Fields.{boundTag}
 use Rattle.stranvek.specs.declared.boundary.Pair.{Pair}
 use Rattle.stranvek.specs.declared.boundary.Key.{Key}
 use Rattle.stranvek.specs.declared.boundary.MadeKeys.{MadeKeys}
 
--- "tag 10 unbounded (length 0), 11 included, 12 excluded"; a number that names no kind is the widest one
+-- a kind's number is its tag; a number that names no kind is the widest one
 abbrev pub kindAt : ℕ → Kind
-kindAt n = cond (eqb n 17) Included (cond (eqb n 18) Excluded Unbounded)
+kindAt n = cond (eqb n (boundTag Included)) Included (cond (eqb n (boundTag Excluded)) Excluded Unbounded)
 
 abbrev pub kindsAt : ℕ → ℕ → ComparableRange
 kindsAt s e = record { start = kindAt s; end = kindAt e }
-
-abbrev pub kindNumber : Kind → ℕ
-kindNumber Unbounded = 16
-kindNumber Included = 17
-kindNumber Excluded = 18
 
 abbrev pub boundAt : ℕ → List ℕ → Bound
 boundAt n key = bound (kindAt n) key
@@ -48,16 +44,16 @@ paired (Of s e) a b c d =
     record {
       status = 0;
       given = true;
-      «start_kind» = kindNumber (sided s a b);
+      «start_kind» = boundTag (sided s a b);
       «start_side» = sideNumber s;
-      «end_kind» = kindNumber (sided e c d);
+      «end_kind» = boundTag (sided e c d);
       «end_side» = sideNumber e;
     }
 paired Nothing a b c d =
-    record { status = 0; given = false; «start_kind» = 16; «start_side» = 0; «end_kind» = 16; «end_side» = 0 }
+    record { status = 0; given = false; «start_kind» = boundTag Unbounded; «start_side» = 0; «end_kind» = boundTag Unbounded; «end_side» = 0 }
 
 abbrev pub key : MadeBound → Key
-key m = record { kind = kindNumber (m .kind); len = m .len; bytes = m .bytes }
+key m = record { kind = boundTag (m .kind); len = m .len; bytes = m .bytes }
 
 abbrev pub madeKeys : MadeRange → MadeKeys
 madeKeys m = record { status = status (m .making); start = key (m .start); end = key (m .end) }

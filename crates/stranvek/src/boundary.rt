@@ -1,21 +1,19 @@
 // What crosses the boundary, beside its calls: the structs that the host reads, and numbers for kinds, sides and statuses.
 ghost use mathlib.Core.Path.{_≡_};
 ghost use Rattle.ranges.specs.Made.{status};
-ghost use Rattle.stranvek.specs.Boundary.{kindAt, kindsAt, kindNumber, sideNumber, paired, key, madeKeys};
+ghost use Rattle.fields.specs.Fields.{boundTag};
+ghost use Rattle.stranvek.specs.Boundary.{kindAt, kindsAt, sideNumber, paired, key, madeKeys};
 use bounds::comparable_range::ComparableRange;
 use bounds::sides::Combined;
 use bounds::sides::Side;
+use fields::EXCLUDED;
+use fields::INCLUDED;
+use fields::UNBOUNDED;
 use keys::KEY_LIMIT;
 use kinds::kind::Kind;
 use ranges::bytes_range::MadeRange;
 use ranges::made::MadeBound;
 use ranges::made::Making;
-
-pub const UNBOUNDED: u8 = 0x10;
-
-const INCLUDED: u8 = 0x11;
-
-const EXCLUDED: u8 = 0x12;
 
 #[repr(C)]
 pub struct Compared {
@@ -80,7 +78,7 @@ pub fn kind_at(number: u8) -> Kind
 }
 
 pub fn number_of(kind: Kind) -> u8
-    ensures { λ r. ⌜ r ≡ kindNumber kind ⌝ }
+    ensures { λ r. ⌜ r ≡ boundTag kind ⌝ }
 {
     match kind {
         Kind::Unbounded => UNBOUNDED,

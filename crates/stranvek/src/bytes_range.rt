@@ -14,7 +14,6 @@ use crate::boundary::MadeKeys;
 use crate::boundary::NewRange;
 use crate::boundary::Pair;
 use crate::boundary::Told;
-use crate::boundary::UNBOUNDED;
 use crate::boundary::key_of;
 use crate::boundary::keys_of;
 use crate::boundary::kind_at;
@@ -22,6 +21,7 @@ use crate::boundary::number_of;
 use crate::boundary::pair_of;
 use crate::boundary::range_at;
 use crate::boundary::status_of;
+use fields::UNBOUNDED;
 use ranges::bytes_range::BytesRange;
 
 #[no_mangle]

@@ -15,7 +15,7 @@ use Rattle.kinds.specs.declared.kind.Kind.the-variants.{Unbounded, Included, Ex
 use Rattle.bounds.specs.declared.comparable_range.ComparableRange.{ComparableRange}
 use Rattle.bounds.specs.Ranges.{Range, range, rangeOf, notEmpty}
 use Rattle.ranges.specs.Made.{keyOf}
-use Rattle.fields.specs.declared.Places.{Places}
+use Rattle.fields.specs.declared.BoundPlaces.{BoundPlaces}
 use Rattle.fields.specs.Fields.{boundsOf}
 use Rattle.fields.specs.Forms.{BoundsAt, NoBoundsIn}
 use Rattle.machine.specs.State.{Bytes, base, rangeBytes}
@@ -50,7 +50,7 @@ one-long n r h = not-true (shortRange n r) (λ e. no h (both (leb (length (keyOf
 pub judged-malformed : {bs : Bytes} → NoBoundsIn bs → Judged.Malformed ≡ judged (boundsOf bs)
 judged-malformed b = sym (ap judged (b .breaks))
 
-module _ {bs : Bytes} {p : Places} (b : BoundsAt bs p) where
+module _ {bs : Bytes} {p : BoundPlaces} (b : BoundsAt bs p) where
   -- where the keys stand
   pub record Within : Type 0 where
     pub start : p .«start_from» ≤ p .«start_to»

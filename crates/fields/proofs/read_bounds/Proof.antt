@@ -1,7 +1,7 @@
 use borrow.Author.Needs.{needs}
 use denote.Ref.{now}
 use Rattle.fields.specs.declared.BoundAt.{BoundAt}
-use Rattle.fields.specs.Forms.{BoundIs}
+use Rattle.fields.specs.Forms.{BoundFieldIs}
 use Rattle.fields.proofs.Bounds.{start-lacks, end-lacks, more-left, bounds-here}
 use Rattle.fields.proofs.read_bounds.Statement.{statement}
 use Rattle.fields.proofs.read_bounds.Tie as tie
@@ -10,10 +10,10 @@ use Rattle.fields.proofs.read_bounds.Lts as lts
 use Rattle.fields.proofs.bound_at.Reads as bound-at-reads
 
 -- the two bounds that were read
-start-seen : (c : tie.After-start) → BoundIs (now (c .before .before .before .before .args .bytes)) 0 (BoundAt.Found (c .start .given .0 .0) (c .start .given .0 .1 .0) (c .start .given .0 .1 .1 .0))
+start-seen : (c : tie.After-start) → BoundFieldIs (now (c .before .before .before .before .args .bytes)) 0 (BoundAt.Found (c .start .given .0 .0) (c .start .given .0 .1 .0) (c .start .given .0 .1 .1 .0))
 start-seen c = rw (c .start .given .1) at (c .before .before .bound-at .ensures)
 
-end-seen : (c : tie.After-end) → BoundIs (now (c .before .before .before .before .before .before .before .before .args .bytes)) (c .before .before .before .before .start .given .0 .1 .1 .0) (BoundAt.Found (c .end .given .0 .0) (c .end .given .0 .1 .0) (c .end .given .0 .1 .1 .0))
+end-seen : (c : tie.After-end) → BoundFieldIs (now (c .before .before .before .before .before .before .before .before .args .bytes)) (c .before .before .before .before .start .given .0 .1 .1 .0) (BoundAt.Found (c .end .given .0 .0) (c .end .given .0 .1 .0) (c .end .given .0 .1 .1 .0))
 end-seen c = rw (c .end .given .1) at (c .before .before .bound-at2 .ensures)
 
 bound-at-requires : tie.Need-bound-at-requires

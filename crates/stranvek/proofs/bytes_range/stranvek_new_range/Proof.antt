@@ -5,7 +5,9 @@ use Rattle.kinds.specs.Bounds.{bound}
 use Rattle.bounds.specs.Ranges.{range}
 use Rattle.ranges.specs.Made.{isDone, status}
 use Rattle.ranges.specs.Making.{newOf}
-use Rattle.stranvek.specs.Boundary.{kindAt, kindNumber, rangeAt}
+use Rattle.kinds.specs.declared.kind.Kind.the-variants.{Unbounded}
+use Rattle.fields.specs.Fields.{boundTag}
+use Rattle.stranvek.specs.Boundary.{kindAt, rangeAt}
 use Rattle.stranvek.proofs.AnswerLaws.{bounded, new-done, new-refused}
 use Rattle.stranvek.proofs.bytes_range.stranvek_new_range.Statement.{statement}
 use Rattle.stranvek.proofs.bytes_range.stranvek_new_range.Tie as tie
@@ -42,7 +44,7 @@ returns c =
     let e = c .before .before .before .before .before .kind-at2 .ensures in
     let m = c .before .before .before .before .new .ensures ∙ (λ i. newOf (range (bound (s i) (now (x .start-key))) (bound (e i) (now (x .end-key))))) in
     let d = sym (ap isDone m) ∙ sym (c .before .before .before .is-done .ensures) ∙ c .before .before .if1 .taken in
-    (λ i. bounded 0 ((c .before .number-of .ensures ∙ ap kindNumber s) i) ((c .number-of2 .ensures ∙ ap kindNumber e) i))
+    (λ i. bounded 0 ((c .before .number-of .ensures ∙ ap boundTag s) i) ((c .number-of2 .ensures ∙ ap boundTag e) i))
     ∙ new-done (newOf (rangeAt (x .start-kind) (now (x .start-key)) (x .end-kind) (now (x .end-key)))) (kindAt (x .start-kind)) (kindAt (x .end-kind)) d
 
 status-of-requires : tie.Need-status-of-requires
@@ -55,7 +57,7 @@ returns-2 c =
     let e = c .before .before .before .before .kind-at2 .ensures in
     let m = c .before .before .before .new .ensures ∙ (λ i. newOf (range (bound (s i) (now (x .start-key))) (bound (e i) (now (x .end-key))))) in
     let d = sym (ap isDone m) ∙ sym (c .before .before .is-done .ensures) ∙ c .before .if1 .left in
-    ap (λ n. bounded n 16 16) (c .status-of .ensures ∙ ap status m) ∙ new-refused (newOf (rangeAt (x .start-kind) (now (x .start-key)) (x .end-kind) (now (x .end-key)))) (kindAt (x .start-kind)) (kindAt (x .end-kind)) d
+    ap (λ n. bounded n (boundTag Unbounded) (boundTag Unbounded)) (c .status-of .ensures ∙ ap status m) ∙ new-refused (newOf (rangeAt (x .start-kind) (now (x .start-key)) (x .end-kind) (now (x .end-key)))) (kindAt (x .start-kind)) (kindAt (x .end-kind)) d
 
 pub stranvek-new-range-spec : {M : Type 1} → statement M
 stranvek-new-range-spec =
