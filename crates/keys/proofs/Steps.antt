@@ -1,6 +1,7 @@
-use Prim.Native.Nat.{ℕ, _≤_, _<_, _-_, _+_, suc}
-use mathlib.Core.Path.{_≡_, refl, sym, ap, _∙_}
-use mathlib.Core.List.{List, [], _∷_}
+-- Two slices that are alike up to a place: how their order follows from what stands there, and one place further.
+use Prim.Native.Nat.{ℕ, _≤_, _<_, _+_}
+use mathlib.Core.Path.{_≡_, refl, _∙_}
+use mathlib.Core.List.{List, []}
 use mathlib.Core.Ordering.{lt, eq, gt}
 use native.Mathlib.Omega.{arith}
 use native.Mathlib.Nat.{le-antisymm}
@@ -10,32 +11,46 @@ use lib.ListN.{length, drop, getD}
 use lib.Seq.{drop-cons, drop-length}
 use Rattle.keys.specs.Order.{order}
 
+-- their order is the order of what is left of them
+pub record Alike (a b : List ℕ) (i : ℕ) : Type 0 where
+  pub first : i ≤ length a
+  pub second : i ≤ length b
+  pub same : order a b ≡ order (drop i a) (drop i b)
+
+pub alike-start : (a b : List ℕ) → Alike a b 0
+alike-start a b = record { first = omega arith; second = omega arith; same = refl }
+
 drop-end : (a : List ℕ) (i : ℕ) → i ≤ length a → length a ≤ i → drop i a ≡ []
 drop-end a i h k = rw (le-antisymm h k) (drop-length a)
 
-module _ (a b : List ℕ) (i : ℕ) (ia : i ≤ length a) (ib : i ≤ length b) where
-  pub order-more : i < length a → length b ≤ i → order (drop i a) (drop i b) ≡ gt
+module _ {a b : List ℕ} {i : ℕ} (x : Alike a b i) where
+  pub second-ends : i < length a → length b ≤ i → order a b ≡ gt
   unfolding order
-  order-more h k = rw (drop-cons a i 0 h, drop-end b i ib k)
+  second-ends h k = x .same ∙ rw (drop-cons a i 0 h, drop-end b i (x .second) k)
 
-  pub order-less : length a ≤ i → i < length b → order (drop i a) (drop i b) ≡ lt
+  pub first-ends : length a ≤ i → i < length b → order a b ≡ lt
   unfolding order
-  order-less h k = rw (drop-cons b i 0 k, drop-end a i ia h)
+  first-ends h k = x .same ∙ rw (drop-cons b i 0 k, drop-end a i (x .first) h)
 
-  pub order-same : length a ≤ i → length b ≤ i → order (drop i a) (drop i b) ≡ eq
+  pub both-end : length a ≤ i → length b ≤ i → order a b ≡ eq
   unfolding order
-  order-same h k = rw (drop-end b i ib k, drop-end a i ia h)
+  both-end h k = x .same ∙ rw (drop-end b i (x .second) k, drop-end a i (x .first) h)
 
-  pub order-lt : i < length a → i < length b → getD a i 0 < getD b i 0 → order (drop i a) (drop i b) ≡ lt
+  pub lesser-byte : i < length a → i < length b → getD a i 0 < getD b i 0 → order a b ≡ lt
   unfolding order
-  order-lt h k l = rw (drop-cons a i 0 h, drop-cons b i 0 k, lt-ltb _ _ l)
+  lesser-byte h k l = x .same ∙ rw (drop-cons a i 0 h, drop-cons b i 0 k, lt-ltb _ _ l)
 
-  pub order-gt : i < length a → i < length b → getD b i 0 < getD a i 0 → order (drop i a) (drop i b) ≡ gt
+  pub greater-byte : i < length a → i < length b → getD b i 0 < getD a i 0 → order a b ≡ gt
   unfolding order
-  order-gt h k l =
+  greater-byte h k l =
       let m : getD b i 0 ≤ getD a i 0 = omega arith in
-      rw (drop-cons a i 0 h, drop-cons b i 0 k, le-ltb _ _ m, lt-ltb _ _ l)
+      x .same ∙ rw (drop-cons a i 0 h, drop-cons b i 0 k, le-ltb _ _ m, lt-ltb _ _ l)
 
-  pub order-step : i < length a → i < length b → getD b i 0 ≤ getD a i 0 → getD a i 0 ≤ getD b i 0 → order (drop i a) (drop i b) ≡ order (drop (i + 1) a) (drop (i + 1) b)
+  pub alike-next : i < length a → i < length b → getD b i 0 ≤ getD a i 0 → getD a i 0 ≤ getD b i 0 → Alike a b (i + 1)
   unfolding order
-  order-step h k l m = rw (drop-cons a i 0 h, drop-cons b i 0 k, le-ltb _ _ l, le-ltb _ _ m, add-one i)
+  alike-next h k l m =
+      record {
+        first = omega arith;
+        second = omega arith;
+        same = x .same ∙ rw (drop-cons a i 0 h, drop-cons b i 0 k, le-ltb _ _ l, le-ltb _ _ m, add-one i);
+      }

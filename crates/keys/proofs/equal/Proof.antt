@@ -1,18 +1,14 @@
+-- Two keys are equal where their comparison says 0.
 use borrow.Author.Needs.{needs}
 use denote.Ref.{now}
 use Rattle.keys.specs.Order.{order}
 use Rattle.keys.proofs.Signs.{same-sign}
 use Rattle.keys.proofs.equal.Statement.{statement}
 use Rattle.keys.proofs.equal.Tie as tie
-use Rattle.keys.proofs.equal.Reads as reads
-use Rattle.keys.proofs.equal.Lts as lts
-use Rattle.keys.proofs.compare.Reads as compare-reads
 
--- src/lib.rt:34:5
 compare-requires : tie.Need-compare-requires
 compare-requires c κs = search needs
 
--- src/lib.rt:31:1
 returns : tie.Need-returns
 returns c =
     let x = c .before .before .before .args in
