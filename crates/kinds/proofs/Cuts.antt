@@ -6,7 +6,7 @@ use mathlib.Core.Bool.{true}
 use mathlib.Core.List.{List, [], _∷_}
 use mathlib.Core.Ordering.{Ordering, lt, eq, gt, then}
 use native.Mathlib.Omega.{arith}
-use Rattle.keys.specs.Order.{order, isLess, isSame, notMore}
+use Rattle.keys.specs.Order.{order, isLess, notMore}
 use Rattle.keys.proofs.OrderLaws.{not-more-trans, less-not-more}
 use Rattle.keys.proofs.Heads.{head-less, head-more, head-same, Three, below, equal, above, three}
 use Rattle.kinds.specs.Bounds.{Bound, unbounded, included, excluded, startOrder, endOrder, startAdmits, endAdmits}

@@ -1,11 +1,11 @@
 -- The two bound orders by the keys' order and the kinds' tie, for starts and ends at once.
 use Prim.Native.Nat.{ℕ}
-use mathlib.Core.Path.{_≡_, refl, ap}
+use mathlib.Core.Path.{_≡_, refl}
 use mathlib.Core.Bool.{Bool, true, false}
 use mathlib.Core.List.{List}
 use mathlib.Core.Ordering.{Ordering, lt, eq, gt, swap, then}
 use native.Mathlib.Omega.{arith}
-use lib.IntN.{ℤ, pos, _-ℤ_}
+use lib.IntN.{pos, _-ℤ_}
 use mir.Syntax.{w8}
 use mir.Facts.{sfits-lit}
 use mir.Val.{toZ, ofZ, SFits}

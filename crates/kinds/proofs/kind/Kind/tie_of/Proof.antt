@@ -1,29 +1,23 @@
+-- A start's tie is kept and an end's is negated; the three signs fit a byte either way.
 use borrow.Author.Needs.{needs}
 use Rattle.kinds.specs.Bounds.{tie}
 use Rattle.kinds.proofs.Ties.{kept-sign, negated-sign, negated-fits}
 use Rattle.kinds.proofs.kind.Kind.tie_of.Statement.{statement}
 use Rattle.kinds.proofs.kind.Kind.tie_of.Tie as tie
-use Rattle.kinds.proofs.kind.Kind.tie_of.Reads as reads
-use Rattle.kinds.proofs.kind.Kind.tie_of.Lts as lts
-use Rattle.kinds.proofs.kind.Kind.tie.Reads as tie-reads
 
--- src/comparable_range.rt:99:13
 tie-requires : tie.Need-tie-requires
 tie-requires c κs = search needs
 
--- src/comparable_range.rt:101:13
 returns : tie.Need-returns
 returns c =
     let x = c .before .before .args in
     rw (c .before .tie .ensures, c .if1 .taken) (kept-sign (tie (x .self) (x .other)))
 
--- src/comparable_range.rt:103:9
 sub-result : tie.Need-sub-result
 sub-result c =
     let x = c .before .before .args in
     rw (c .before .tie .ensures) (negated-fits (tie (x .self) (x .other)))
 
--- src/comparable_range.rt:96:5
 returns-2 : tie.Need-returns-2
 returns-2 c =
     let x = c .before .before .args in
