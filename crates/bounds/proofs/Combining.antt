@@ -1,7 +1,7 @@
 -- How intersect's and union's answers follow from the sides that code found.
 use Prim.Native.Nat.{ℕ}
 use mathlib.Core.Path.{_≡_, refl, sym, ap, _∙_}
-use mathlib.Core.Bool.{Bool, true, false, cond, _||_}
+use mathlib.Core.Bool.{Bool, cond, _||_}
 use mathlib.Core.List.{List}
 use Rattle.keys.specs.Order.{isLess}
 use Rattle.kinds.specs.declared.kind.Kind.{Kind}
@@ -10,7 +10,7 @@ use Rattle.bounds.specs.declared.sides.Side.the-variants.{First, Second}
 use Rattle.bounds.specs.declared.sides.Combined.{Combined}
 use Rattle.bounds.specs.declared.sides.Combined.the-variants.{Of, Nothing}
 use Rattle.kinds.specs.Bounds.{Bound, bound}
-use Rattle.bounds.specs.Ranges.{Range, range, notEmptyPair, touches, rangeOrder, intersectOf, joinOf, unionOf}
+use Rattle.bounds.specs.Ranges.{Range, notEmptyPair, touches, rangeOrder, intersectOf, joinOf, unionOf}
 use Rattle.bounds.specs.Sides.{sided, maxStart, minEnd, maxEnd, isGiven, swapSides}
 
 sided-bound : (s : Side) (k l : Kind) (x y : List ℕ) → sided s (bound k x) (bound l y) ≡ bound (sided s k l) (sided s x y)

@@ -3,7 +3,7 @@ use Prim.Native.Nat.{ℕ}
 use mathlib.Core.Path.{_≡_, refl, sym, ap, _∙_}
 use mathlib.Core.Bool.{Bool, true, false, cond, _&&_}
 use mathlib.Core.List.{List}
-use Rattle.keys.specs.Order.{isMore, notMore}
+use Rattle.keys.specs.Order.{isMore}
 use Rattle.keys.proofs.OrderLaws.{not-more-less}
 use Rattle.bounds.specs.declared.sides.Side.{Side}
 use Rattle.bounds.specs.declared.sides.Side.the-variants.{First, Second}

@@ -2,7 +2,7 @@
 use Prim.Native.Nat.{ℕ}
 use mathlib.Core.Bool.{Bool, true, false, cond, not, _&&_, _||_}
 use mathlib.Core.List.{List}
-use mathlib.Core.Ordering.{Ordering, lt, eq, gt, then}
+use mathlib.Core.Ordering.{Ordering, then}
 use Rattle.keys.specs.Order.{order, isLess, isSame, notMore}
 use Rattle.bounds.specs.declared.comparable_range.ComparableRange.{ComparableRange}
 use Rattle.bounds.specs.declared.sides.Side.{Side}

@@ -1,6 +1,6 @@
 -- Sides: one of two, the greater start, the lesser and the greater end, and what is combined of them.
 use mathlib.Core.Bool.{Bool, true, false, cond}
-use Rattle.keys.specs.Order.{isLess, isMore}
+use Rattle.keys.specs.Order.{isMore}
 use Rattle.kinds.specs.Bounds.{Bound, startOrder, endOrder}
 use Rattle.bounds.specs.declared.sides.Side.{Side}
 use Rattle.bounds.specs.declared.sides.Side.the-variants.{First, Second}

@@ -1,12 +1,10 @@
+-- The sign of the comparison says which start is the greater.
 use borrow.Author.Needs.{needs}
 use denote.Ref.{now}
 use Rattle.kinds.specs.Bounds.{bound, startOrder}
 use Rattle.keys.proofs.Signs.{on-gt}
 use Rattle.bounds.proofs.sides.max_start.Statement.{statement}
 use Rattle.bounds.proofs.sides.max_start.Tie as tie
-use Rattle.bounds.proofs.sides.max_start.Reads as reads
-use Rattle.bounds.proofs.sides.max_start.Lts as lts
-use Rattle.kinds.proofs.kind.Kind.compare_start.Reads as compare-start-reads
 
 compare-start-requires : tie.Need-compare-start-requires
 compare-start-requires c κs = search needs

@@ -1,5 +1,6 @@
+-- An open bound has no key, a key over the limit is refused, and otherwise the two parts are pasted one behind the other.
 use borrow.Author.Needs.{needs}
-use mathlib.Core.Path.{refl, sym, ap, _∙_}
+use mathlib.Core.Path.{sym, _∙_}
 use mathlib.Core.List.{_++_}
 use native.Mathlib.Omega.{arith}
 use borrow.Author.Tests.{not-true, not-false}
@@ -8,68 +9,49 @@ use lib.ListN.{length-append}
 use Rattle.ranges.proofs.MadeLaws.{made-open, made-long, front-bytes, joined-bytes}
 use Rattle.ranges.proofs.made.joined.Statement.{statement}
 use Rattle.ranges.proofs.made.joined.Tie as tie
-use Rattle.ranges.proofs.made.joined.Reads as reads
-use Rattle.ranges.proofs.made.joined.Lts as lts
-use Rattle.kinds.proofs.kind.Kind.bounded.Reads as bounded-reads
-use Rattle.ranges.proofs.made.Made.nothing.Reads as nothing-reads
-use Rattle.ranges.proofs.made.with_bytes.Reads as with-bytes-reads
-use Rattle.ranges.proofs.made.zeros.Reads as zeros-reads
 
--- src/bytes_range.rt:91:9
 bounded-requires : tie.Need-bounded-requires
 bounded-requires c κs = search needs
 
--- src/bytes_range.rt:92:9
 nothing-requires : tie.Need-nothing-requires
 nothing-requires c κs = search needs
 
--- src/bytes_range.rt:92:9
 returns : tie.Need-returns
 returns c =
     let x = c .before .before .before .before .before .args in
     c .nothing .ensures ∙ made-open (x .kind) (now (x .prefix) ++ now (x .suffix)) (sym (c .before .before .bounded .ensures) ∙ not-true _ (c .before .if1 .taken))
 
--- src/bytes_range.rt:95:9
 nothing-requires-2 : tie.Need-nothing-requires-2
 nothing-requires-2 c κs = search needs
 
--- src/bytes_range.rt:95:9
 returns-2 : tie.Need-returns-2
 returns-2 c =
     let x = c .before .before .before .before .before .before .args in
     c .nothing2 .ensures ∙ made-long (x .kind) (now (x .prefix) ++ now (x .suffix)) (sym (c .before .before .before .bounded .ensures) ∙ not-false _ (c .before .before .if1 .left)) (omega (arith, length-append (now (x .prefix)) (now (x .suffix))))
 
--- src/bytes_range.rt:97:8
 sub-if3 : tie.Need-sub-if3
 sub-if3 c = search needs
 
--- src/bytes_range.rt:98:9
 nothing-requires-3 : tie.Need-nothing-requires-3
 nothing-requires-3 c κs = search needs
 
--- src/bytes_range.rt:98:9
 returns-3 : tie.Need-returns-3
 returns-3 c =
     let x = c .before .before .before .before .before .before .before .args in
     c .nothing3 .ensures ∙ made-long (x .kind) (now (x .prefix) ++ now (x .suffix)) (sym (c .before .before .before .before .bounded .ensures) ∙ not-false _ (c .before .before .before .if1 .left)) (omega (arith, length-append (now (x .prefix)) (now (x .suffix))))
 
--- src/bytes_range.rt:100:28
 zeros-requires : tie.Need-zeros-requires
 zeros-requires c κs = search needs
 
--- src/bytes_range.rt:100:9
 with-bytes-requires : tie.Need-with-bytes-requires
 with-bytes-requires c κs = search needs
 
--- src/bytes_range.rt:101:9
 with-bytes-requires-2 : tie.Need-with-bytes-requires-2
 with-bytes-requires-2 c κs = search needs
 
--- src/bytes_range.rt:104:14
 add-t13 : tie.Need-add-t13
 add-t13 c = search needs
 
--- src/bytes_range.rt:88:1
 returns-4 : tie.Need-returns-4
 returns-4 c =
     let x = c .before .before .before .before .before .before .before .before .before .args in

@@ -1,11 +1,9 @@
+-- By the two kinds: only an included and an excluded bound can touch, where their keys are equal.
 use borrow.Author.Needs.{needs}
 use Rattle.bounds.proofs.comparable_range.ComparableRange.are_adjacent.Statement.{
   statement,
 }
 use Rattle.bounds.proofs.comparable_range.ComparableRange.are_adjacent.Tie as tie
-use Rattle.bounds.proofs.comparable_range.ComparableRange.are_adjacent.Reads as reads
-use Rattle.bounds.proofs.comparable_range.ComparableRange.are_adjacent.Lts as lts
-use Rattle.keys.proofs.equal.Reads as equal-reads
 
 enum-told : tie.Need-enum-told
 enum-told c = search needs

@@ -1,11 +1,8 @@
+-- A key is held where both bounds admit it.
 use borrow.Author.Needs.{needs}
 use Rattle.keys.proofs.Signs.{and-taken, and-left}
 use Rattle.bounds.proofs.comparable_range.ComparableRange.contains.Statement.{statement}
 use Rattle.bounds.proofs.comparable_range.ComparableRange.contains.Tie as tie
-use Rattle.bounds.proofs.comparable_range.ComparableRange.contains.Reads as reads
-use Rattle.bounds.proofs.comparable_range.ComparableRange.contains.Lts as lts
-use Rattle.kinds.proofs.kind.Kind.admits_from.Reads as admits-from-reads
-use Rattle.kinds.proofs.kind.Kind.admits_to.Reads as admits-to-reads
 
 admits-from-requires : tie.Need-admits-from-requires
 admits-from-requires c κs = search needs

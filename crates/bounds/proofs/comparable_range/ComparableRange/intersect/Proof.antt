@@ -1,3 +1,4 @@
+-- The pair of the greater start and the lesser end is the definition's, and it is given where it is not empty.
 use borrow.Author.Needs.{needs}
 use mathlib.Core.Path.{sym, _∙_}
 use denote.Ref.{now}
@@ -5,15 +6,9 @@ use Rattle.bounds.specs.Ranges.{rangeOf}
 use Rattle.bounds.proofs.Combining.{picked, intersected}
 use Rattle.bounds.proofs.comparable_range.ComparableRange.intersect.Statement.{statement}
 use Rattle.bounds.proofs.comparable_range.ComparableRange.intersect.Tie as tie
-use Rattle.bounds.proofs.comparable_range.ComparableRange.intersect.Reads as reads
-use Rattle.bounds.proofs.comparable_range.ComparableRange.intersect.Lts as lts
-use Rattle.bounds.proofs.sides.Combined.when.Reads as when-reads
-use Rattle.bounds.proofs.comparable_range.ComparableRange.new.Reads as new-reads
-use Rattle.bounds.proofs.comparable_range.ComparableRange.non_empty.Reads as non-empty-reads
-use Rattle.bounds.proofs.sides.Side.key.Reads as key-reads
-use Rattle.bounds.proofs.sides.Side.kind.Reads as kind-reads
-use Rattle.bounds.proofs.sides.max_start.Reads as max-start-reads
-use Rattle.bounds.proofs.sides.min_end.Reads as min-end-reads
+
+abbrev start : tie.After-min-end → tie.Start
+start c = c .before .before .before .before .before .before
 
 max-start-requires : tie.Need-max-start-requires
 max-start-requires c κs = search needs
@@ -44,10 +39,12 @@ when-requires c κs = search needs
 
 returns : tie.Need-returns
 returns c =
-    let x = c .before .before .before .before .before .before .before .before .before .before .before .before .before .args in
-    let m = picked (c .before .before .before .before .before .before .before .before .max-start .result) (x .self .start) (x .other .start) (now (x .start-key)) (now (x .other-start-key)) (c .before .before .before .before .new .ensures .0 ∙ c .before .before .before .before .before .before .kind .ensures) (c .before .before .before .key .ensures) in
-    let n = picked (c .before .before .before .before .before .before .before .min-end .result) (x .self .end) (x .other .end) (now (x .end-key)) (now (x .other-end-key)) (c .before .before .before .before .new .ensures .1 ∙ c .before .before .before .before .before .kind2 .ensures) (c .before .before .key2 .ensures) in
-    c .when .ensures ∙ intersected (rangeOf (x .self) (now (x .start-key)) (now (x .end-key))) (rangeOf (x .other) (now (x .other-start-key)) (now (x .other-end-key))) (c .before .before .before .before .before .before .before .before .max-start .ensures) (c .before .before .before .before .before .before .before .min-end .ensures) m n (sym (c .before .non-empty .ensures))
+    let new = c .before .before .before .before in
+    let sides = new .before .before .before in
+    let x = start sides .args in
+    let m = picked (sides .before .max-start .result) (x .self .start) (x .other .start) (now (x .start-key)) (now (x .other-start-key)) (new .new .ensures .0 ∙ new .before .before .kind .ensures) (c .before .before .before .key .ensures) in
+    let n = picked (sides .min-end .result) (x .self .end) (x .other .end) (now (x .end-key)) (now (x .other-end-key)) (new .new .ensures .1 ∙ new .before .kind2 .ensures) (c .before .before .key2 .ensures) in
+    c .when .ensures ∙ intersected (rangeOf (x .self) (now (x .start-key)) (now (x .end-key))) (rangeOf (x .other) (now (x .other-start-key)) (now (x .other-end-key))) (sides .before .max-start .ensures) (sides .min-end .ensures) m n (sym (c .before .non-empty .ensures))
 
 pub intersect-spec : {M : Type 1} → statement M
 intersect-spec =

@@ -1,3 +1,4 @@
+-- The key is that of the side which the lesser end has.
 use borrow.Author.Needs.{needs}
 use mathlib.Core.Path.{ap, _∙_}
 use denote.Ref.{now}
@@ -6,10 +7,6 @@ use Rattle.bounds.proofs.comparable_range.ComparableRange.intersect_end
   statement,
 }
 use Rattle.bounds.proofs.comparable_range.ComparableRange.intersect_end.Tie as tie
-use Rattle.bounds.proofs.comparable_range.ComparableRange.intersect_end.Reads as reads
-use Rattle.bounds.proofs.comparable_range.ComparableRange.intersect_end.Lts as lts
-use Rattle.bounds.proofs.sides.Side.key.Reads as key-reads
-use Rattle.bounds.proofs.sides.min_end.Reads as min-end-reads
 
 min-end-requires : tie.Need-min-end-requires
 min-end-requires c κs = search needs

@@ -1,3 +1,4 @@
+-- The key is that of the side which the greater start has.
 use borrow.Author.Needs.{needs}
 use mathlib.Core.Path.{ap, _∙_}
 use denote.Ref.{now}
@@ -6,10 +7,6 @@ use Rattle.bounds.proofs.comparable_range.ComparableRange.intersect_sta
   statement,
 }
 use Rattle.bounds.proofs.comparable_range.ComparableRange.intersect_start.Tie as tie
-use Rattle.bounds.proofs.comparable_range.ComparableRange.intersect_start.Reads as reads
-use Rattle.bounds.proofs.comparable_range.ComparableRange.intersect_start.Lts as lts
-use Rattle.bounds.proofs.sides.Side.key.Reads as key-reads
-use Rattle.bounds.proofs.sides.max_start.Reads as max-start-reads
 
 max-start-requires : tie.Need-max-start-requires
 max-start-requires c κs = search needs

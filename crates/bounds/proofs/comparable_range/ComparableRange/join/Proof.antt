@@ -1,3 +1,4 @@
+-- Two ranges are joined where they share a key or touch, up to the greater end.
 use borrow.Author.Needs.{needs}
 use mathlib.Core.Path.{refl, sym, _∙_}
 use denote.Ref.{now}
@@ -5,13 +6,9 @@ use Rattle.bounds.specs.Ranges.{rangeOf}
 use Rattle.bounds.proofs.Combining.{joined}
 use Rattle.bounds.proofs.comparable_range.ComparableRange.join.Statement.{statement}
 use Rattle.bounds.proofs.comparable_range.ComparableRange.join.Tie as tie
-use Rattle.bounds.proofs.comparable_range.ComparableRange.join.Reads as reads
-use Rattle.bounds.proofs.comparable_range.ComparableRange.join.Lts as lts
-use Rattle.bounds.proofs.sides.Combined.is_given.Reads as is-given-reads
-use Rattle.bounds.proofs.sides.Combined.when.Reads as when-reads
-use Rattle.bounds.proofs.comparable_range.ComparableRange.are_adjacent.Reads as are-adjacent-reads
-use Rattle.bounds.proofs.comparable_range.ComparableRange.intersect.Reads as intersect-reads
-use Rattle.bounds.proofs.sides.max_end.Reads as max-end-reads
+
+abbrev start : tie.After-max-end → tie.Start
+start c = c .before .before .before .before .before
 
 max-end-requires : tie.Need-max-end-requires
 max-end-requires c κs = search needs
@@ -27,9 +24,10 @@ when-requires c κs = search needs
 
 returns : tie.Need-returns
 returns c =
-    let x = c .before .before .before .before .before .before .before .before .before .args in
+    let end = c .before .before .before .before in
+    let x = start end .args in
     c .when .ensures
-    ∙ joined (rangeOf (x .self) (now (x .start-key)) (now (x .end-key))) (rangeOf (x .other) (now (x .other-start-key)) (now (x .other-end-key))) (c .before .before .before .before .max-end .ensures) (c .before .before .before .intersect .ensures) (sym (c .before .before .is-given .ensures) ∙ c .before .if1 .taken) refl
+    ∙ joined (rangeOf (x .self) (now (x .start-key)) (now (x .end-key))) (rangeOf (x .other) (now (x .other-start-key)) (now (x .other-end-key))) (end .max-end .ensures) (c .before .before .before .intersect .ensures) (sym (c .before .before .is-given .ensures) ∙ c .before .if1 .taken) refl
 
 are-adjacent-requires : tie.Need-are-adjacent-requires
 are-adjacent-requires c κs = search needs
@@ -39,9 +37,10 @@ when-requires-2 c κs = search needs
 
 returns-2 : tie.Need-returns-2
 returns-2 c =
-    let x = c .before .before .before .before .before .before .before .before .before .before .args in
+    let shared = c .before .before .before .before in
+    let x = start (shared .before) .args in
     c .when2 .ensures
-    ∙ joined (rangeOf (x .self) (now (x .start-key)) (now (x .end-key))) (rangeOf (x .other) (now (x .other-start-key)) (now (x .other-end-key))) (c .before .before .before .before .before .max-end .ensures) (c .before .before .before .before .intersect .ensures) (sym (c .before .before .before .is-given .ensures) ∙ c .before .before .if1 .left) (sym (c .before .are-adjacent .ensures))
+    ∙ joined (rangeOf (x .self) (now (x .start-key)) (now (x .end-key))) (rangeOf (x .other) (now (x .other-start-key)) (now (x .other-end-key))) (shared .before .max-end .ensures) (shared .intersect .ensures) (sym (c .before .before .before .is-given .ensures) ∙ c .before .before .if1 .left) (sym (c .before .are-adjacent .ensures))
 
 pub join-spec : {M : Type 1} → statement M
 join-spec =

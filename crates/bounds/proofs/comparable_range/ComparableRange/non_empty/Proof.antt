@@ -1,10 +1,8 @@
+-- By the two kinds: the sign of the comparison of the keys says whether something lies between the bounds.
 use borrow.Author.Needs.{needs}
 use Rattle.keys.proofs.Signs.{lt-sign, le-sign}
 use Rattle.bounds.proofs.comparable_range.ComparableRange.non_empty.Statement.{statement}
 use Rattle.bounds.proofs.comparable_range.ComparableRange.non_empty.Tie as tie
-use Rattle.bounds.proofs.comparable_range.ComparableRange.non_empty.Reads as reads
-use Rattle.bounds.proofs.comparable_range.ComparableRange.non_empty.Lts as lts
-use Rattle.keys.proofs.compare.Reads as compare-reads
 
 enum-told : tie.Need-enum-told
 enum-told c = search needs

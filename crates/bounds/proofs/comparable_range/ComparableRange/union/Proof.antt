@@ -1,3 +1,4 @@
+-- The lesser range is joined with the other, whichever way round they come.
 use borrow.Author.Needs.{needs}
 use mathlib.Core.Path.{ap, _∙_}
 use denote.Ref.{now}
@@ -7,11 +8,9 @@ use Rattle.bounds.specs.Sides.{swapSides}
 use Rattle.bounds.proofs.Combining.{united}
 use Rattle.bounds.proofs.comparable_range.ComparableRange.union.Statement.{statement}
 use Rattle.bounds.proofs.comparable_range.ComparableRange.union.Tie as tie
-use Rattle.bounds.proofs.comparable_range.ComparableRange.union.Reads as reads
-use Rattle.bounds.proofs.comparable_range.ComparableRange.union.Lts as lts
-use Rattle.bounds.proofs.sides.Combined.swapped.Reads as swapped-reads
-use Rattle.bounds.proofs.comparable_range.ComparableRange.compare.Reads as compare-reads
-use Rattle.bounds.proofs.comparable_range.ComparableRange.join.Reads as join-reads
+
+abbrev start : tie.After-compare → tie.Start
+start c = c .before .before .before .before .before
 
 compare-requires : tie.Need-compare-requires
 compare-requires c κs = search needs
@@ -21,7 +20,7 @@ join-requires c κs = search needs
 
 returns : tie.Need-returns
 returns c =
-    let x = c .before .before .before .before .before .before .before .args in
+    let x = start (c .before .before) .args in
     let o = rangeOrder (rangeOf (x .self) (now (x .start-key)) (now (x .end-key))) (rangeOf (x .other) (now (x .other-start-key)) (now (x .other-end-key))) in
     c .join .ensures ∙ united (rangeOf (x .self) (now (x .start-key)) (now (x .end-key))) (rangeOf (x .other) (now (x .other-start-key)) (now (x .other-end-key))) (on-lt o (c .before .before .compare .ensures) (c .before .if1 .taken))
 
@@ -33,7 +32,7 @@ swapped-requires c κs = search needs
 
 returns-2 : tie.Need-returns-2
 returns-2 c =
-    let x = c .before .before .before .before .before .before .before .before .args in
+    let x = start (c .before .before .before) .args in
     let o = rangeOrder (rangeOf (x .self) (now (x .start-key)) (now (x .end-key))) (rangeOf (x .other) (now (x .other-start-key)) (now (x .other-end-key))) in
     c .swapped .ensures
     ∙ ap swapSides (c .before .join2 .ensures)

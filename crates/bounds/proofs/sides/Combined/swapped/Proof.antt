@@ -1,9 +1,7 @@
+-- Each side is swapped by itself.
 use borrow.Author.Needs.{needs}
 use Rattle.bounds.proofs.sides.Combined.swapped.Statement.{statement}
 use Rattle.bounds.proofs.sides.Combined.swapped.Tie as tie
-use Rattle.bounds.proofs.sides.Combined.swapped.Reads as reads
-use Rattle.bounds.proofs.sides.Combined.swapped.Lts as lts
-use Rattle.bounds.proofs.sides.Side.other.Reads as other-reads
 
 enum-known-self : tie.Need-enum-known-self
 enum-known-self c = search needs

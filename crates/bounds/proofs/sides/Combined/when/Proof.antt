@@ -1,8 +1,7 @@
+-- Both ways of the test are the definition's two ways.
 use borrow.Author.Needs.{needs}
 use Rattle.bounds.proofs.sides.Combined.when.Statement.{statement}
 use Rattle.bounds.proofs.sides.Combined.when.Tie as tie
-use Rattle.bounds.proofs.sides.Combined.when.Reads as reads
-use Rattle.bounds.proofs.sides.Combined.when.Lts as lts
 
 returns : tie.Need-returns
 returns c = rw (c .if1 .taken)
