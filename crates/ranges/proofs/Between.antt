@@ -1,5 +1,5 @@
 -- A range between two made bounds: the answer by what code tested.
-use Prim.Native.Nat.{ℕ, _≤_, _<_, _+_}
+use Prim.Native.Nat.{ℕ, _≤_, _<_}
 use mathlib.Core.Path.{_≡_, refl, sym, ap, _∙_}
 use mathlib.Core.Bool.{Bool, true, false, cond, _||_, or-true}
 use mathlib.Core.List.{List, [], _∷_, _++_}
@@ -7,15 +7,14 @@ use native.Mathlib.Omega.{arith}
 use borrow.Author.Tests.{lt-ltb, ltb-false}
 use lib.ListN.{length, take, length-append}
 use Rattle.keys.specs.Limit.{keyLimit}
-use Rattle.kinds.specs.declared.kind.Kind.{Kind}
 use Rattle.kinds.specs.Bounds.{Bound, unbounded, included, excluded, bound}
-use Rattle.bounds.specs.Ranges.{Range, range, notEmpty}
+use Rattle.bounds.specs.Ranges.{range, notEmpty}
 use Rattle.ranges.specs.declared.made.Making.{Making}
 use Rattle.ranges.specs.declared.made.Making.the-variants.{Done, TooLong, Empty}
 use Rattle.ranges.specs.declared.made.Made.{Made}
-use Rattle.ranges.specs.Made.{Sized, isDone, tooLong, kindOf, keyOf, padded, madeOf, made, madeBound}
+use Rattle.ranges.specs.Made.{Sized, isDone, tooLong, kindOf, keyOf, madeOf, made, madeBound}
 use Rattle.ranges.specs.Making.{newOf, madeAs, answered, madeRange}
-use Rattle.ranges.specs.Prefixes.{subrangeOf, subStart}
+use Rattle.ranges.specs.Prefixes.{subStart}
 use Rattle.ranges.proofs.MadeLaws.{take-padded, length-padded}
 
 done-by : (t : Bool) (b : Bound) → isDone (cond t (made TooLong unbounded) (made Done b) .making) ≡ true → cond t (made TooLong unbounded) (made Done b) ≡ made Done b

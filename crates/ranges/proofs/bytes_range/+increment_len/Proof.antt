@@ -1,3 +1,4 @@
+-- By recursion on the prefix without its last byte: the increment of all is the increment of the first r bytes.
 use Prim.Native.Nat.{_-_}
 use mathlib.Core.Path.{sym}
 use native.Mathlib.Omega.{arith}

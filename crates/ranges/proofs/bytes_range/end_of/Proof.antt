@@ -1,3 +1,4 @@
+-- A bounded end is joined to the prefix; an open one is the prefix's increment.
 use borrow.Author.Needs.{needs}
 use mathlib.Core.Path.{sym, ap, _∙_}
 use native.Mathlib.Omega.{arith}

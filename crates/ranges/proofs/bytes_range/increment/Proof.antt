@@ -1,3 +1,4 @@
+-- The increment is that of the prefix up to the last byte that can be raised, and there is none where no byte can.
 use borrow.Author.Needs.{needs}
 use mathlib.Core.Path.{sym, ap, _∙_}
 use native.Mathlib.Omega.{arith}

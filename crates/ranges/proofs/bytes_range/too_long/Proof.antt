@@ -1,24 +1,19 @@
+-- Only a bounded key can be over the limit.
 use borrow.Author.Needs.{needs}
-use mathlib.Core.Path.{refl, sym, ap, _∙_}
+use mathlib.Core.Path.{sym, _∙_}
 use denote.Ref.{now}
 use Rattle.ranges.proofs.MakingLaws.{long-shut, long-open}
 use Rattle.ranges.proofs.bytes_range.too_long.Statement.{statement}
 use Rattle.ranges.proofs.bytes_range.too_long.Tie as tie
-use Rattle.ranges.proofs.bytes_range.too_long.Reads as reads
-use Rattle.ranges.proofs.bytes_range.too_long.Lts as lts
-use Rattle.kinds.proofs.kind.Kind.bounded.Reads as bounded-reads
 
--- src/bytes_range.rt:174:5
 bounded-requires : tie.Need-bounded-requires
 bounded-requires c κs = search needs
 
--- src/bytes_range.rt:171:1
 returns : tie.Need-returns
 returns c =
     let x = c .before .before .before .args in
     long-shut (x .kind) (now (x .key)) (sym (c .before .bounded .ensures) ∙ c .if1 .taken)
 
--- src/bytes_range.rt:171:1
 returns-2 : tie.Need-returns-2
 returns-2 c =
     let x = c .before .before .before .args in

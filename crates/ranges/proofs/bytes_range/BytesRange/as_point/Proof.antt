@@ -1,55 +1,41 @@
+-- By the two kinds: only two included bounds with equal keys make a point.
 use borrow.Author.Needs.{needs}
 use Rattle.ranges.proofs.bytes_range.BytesRange.as_point.Statement.{statement}
 use Rattle.ranges.proofs.bytes_range.BytesRange.as_point.Tie as tie
-use Rattle.ranges.proofs.bytes_range.BytesRange.as_point.Reads as reads
-use Rattle.ranges.proofs.bytes_range.BytesRange.as_point.Lts as lts
-use Rattle.keys.proofs.equal.Reads as equal-reads
 
--- src/bytes_range.rt:311:32
 enum-told : tie.Need-enum-told
 enum-told c = search needs
 
--- src/bytes_range.rt:312:31
 enum-told-2 : tie.Need-enum-told-2
 enum-told-2 c = search needs
 
--- src/bytes_range.rt:313:36
 enum-told-3 : tie.Need-enum-told-3
 enum-told-3 c = search needs
 
--- src/bytes_range.rt:314:35
 enum-told-4 : tie.Need-enum-told-4
 enum-told-4 c = search needs
 
--- src/bytes_range.rt:314:35
 equal-requires : tie.Need-equal-requires
 equal-requires c κs = search needs
 
--- src/bytes_range.rt:315:35
 enum-told-5 : tie.Need-enum-told-5
 enum-told-5 c = search needs
 
--- src/bytes_range.rt:317:31
 enum-told-6 : tie.Need-enum-told-6
 enum-told-6 c = search needs
 
--- src/bytes_range.rt:304:5
 returns : tie.Need-returns
 returns c = search needs
 
--- src/bytes_range.rt:304:5
 returns-2 : tie.Need-returns-2
 returns-2 c = search needs
 
--- src/bytes_range.rt:304:5
 returns-3 : tie.Need-returns-3
 returns-3 c = rw (c .before .before .before .enum-told2 .given .1, c .before .enum-told4 .given .1, c .equal .ensures)
 
--- src/bytes_range.rt:304:5
 returns-4 : tie.Need-returns-4
 returns-4 c = search needs
 
--- src/bytes_range.rt:304:5
 returns-5 : tie.Need-returns-5
 returns-5 c = search needs
 

@@ -1,3 +1,4 @@
+-- A prefix's range is its subrange of everything.
 use borrow.Author.Needs.{needs}
 use mathlib.Core.Path.{sym, ap, _∙_}
 use denote.Ref.{now}

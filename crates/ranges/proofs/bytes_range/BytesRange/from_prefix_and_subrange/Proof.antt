@@ -1,3 +1,4 @@
+-- A prefix over the limit makes a start over the limit; otherwise the range lies between the two made bounds.
 use borrow.Author.Needs.{needs}
 use mathlib.Core.Path.{sym, ap, _∙_}
 use native.Mathlib.Omega.{arith}
@@ -17,6 +18,9 @@ use Rattle.ranges.proofs.bytes_range.end_of.Reads as end-of-reads
 use Rattle.ranges.proofs.bytes_range.start_of.Reads as start-of-reads
 
 -- src/bytes_range.rt:276:13
+abbrev start : tie.After-start-of → tie.Start
+start c = c .before .before .before .before .before
+
 refused-requires : tie.Need-refused-requires
 refused-requires c κs = search needs
 
@@ -38,13 +42,13 @@ end-of-requires c κs = search needs
 -- src/bytes_range.rt:282:9
 between-requires : tie.Need-between-requires
 between-requires c κs =
-    let x = c .before .before .before .before .before .before .args in
+    let x = start (c .before) .args in
     (sized (subStart (now (x .prefix)) (bound (x .subrange .start) (now (x .start-suffix)))) (c .before .start-of .ensures), sized (subEnd (now (x .prefix)) (bound (x .subrange .end) (now (x .end-suffix)))) (c .end-of .ensures))
 
 -- src/bytes_range.rt:267:5
 returns-2 : tie.Need-returns-2
 returns-2 c =
-    let x = c .before .before .before .before .before .before .before .args in
+    let x = start (c .before .before) .args in
     c .between .ensures (subStart (now (x .prefix)) (bound (x .subrange .start) (now (x .start-suffix)))) (subEnd (now (x .prefix)) (bound (x .subrange .end) (now (x .end-suffix)))) (c .before .before .start-of .ensures) (c .before .end-of .ensures)
 
 pub from-prefix-and-subrange-spec : {M : Type 1} → statement M

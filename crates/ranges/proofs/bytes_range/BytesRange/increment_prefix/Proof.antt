@@ -1,3 +1,4 @@
+-- A prefix over the limit is refused, and any other incremented.
 use borrow.Author.Needs.{needs}
 use borrow.Author.Tests.{lt-ltb, le-ltb}
 use Rattle.ranges.proofs.bytes_range.BytesRange.increment_prefix.Statement.{statement}

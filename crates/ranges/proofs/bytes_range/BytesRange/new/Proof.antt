@@ -1,60 +1,56 @@
+-- The limit is judged before emptiness, the start before the end.
 use borrow.Author.Needs.{needs}
-use mathlib.Core.Path.{refl, sym, ap, _∙_}
+use mathlib.Core.Path.{_≡_, refl, sym, _∙_}
+use mathlib.Core.Bool.{Bool, true, false, cond}
 use denote.Ref.{now}
 use Rattle.kinds.specs.Bounds.{bound}
 use Rattle.bounds.specs.Ranges.{range, notEmptyPair}
+use Rattle.ranges.specs.declared.made.Making.the-variants.{Done, Empty}
+use Rattle.ranges.specs.Making.{newOf}
 use Rattle.ranges.proofs.MakingLaws.{new-by}
 use Rattle.ranges.proofs.bytes_range.BytesRange.new.Statement.{statement}
 use Rattle.ranges.proofs.bytes_range.BytesRange.new.Tie as tie
-use Rattle.ranges.proofs.bytes_range.BytesRange.new.Reads as reads
-use Rattle.ranges.proofs.bytes_range.BytesRange.new.Lts as lts
-use Rattle.bounds.proofs.comparable_range.ComparableRange.new.Reads as new-reads
-use Rattle.bounds.proofs.comparable_range.ComparableRange.non_empty.Reads as non-empty-reads
-use Rattle.ranges.proofs.bytes_range.too_long.Reads as too-long-reads
 
--- src/bytes_range.rt:191:12
+abbrev start : tie.After-too-long → tie.Start
+start c = c .before .before .before
+
+-- past the two tests neither key is over the limit, and emptiness is judged
+judged : (c : tie.After-non-empty) (b : Bool) → c .non-empty .result ≡ b → let x = start (c .before .before .before .before .before) .args in cond b Done Empty ≡ newOf (range (bound (x .start) (now (x .start-key))) (bound (x .end) (now (x .end-key))))
+judged c b e =
+    let two = c .before .before in
+    let one = two .before .before in
+    let x = start (one .before) .args in
+    let n = c .before .new .ensures in
+    new-by (range (bound (x .start) (now (x .start-key))) (bound (x .end) (now (x .end-key)))) (sym (one .before .too-long .ensures) ∙ one .if1 .left) (sym (two .before .too-long2 .ensures) ∙ two .if2 .left)
+    (sym (c .non-empty .ensures ∙ (λ i. notEmptyPair (bound (n .0 i) (now (x .start-key))) (bound (n .1 i) (now (x .end-key))))) ∙ e)
+
 too-long-requires : tie.Need-too-long-requires
 too-long-requires c κs = search needs
 
--- src/bytes_range.rt:192:13
 returns : tie.Need-returns
 returns c =
-    let x = c .before .before .before .before .args in
+    let x = start (c .before) .args in
     new-by (range (bound (x .start) (now (x .start-key))) (bound (x .end) (now (x .end-key)))) (sym (c .before .too-long .ensures) ∙ c .if1 .taken) refl refl
 
--- src/bytes_range.rt:194:12
 too-long-requires-2 : tie.Need-too-long-requires-2
 too-long-requires-2 c κs = search needs
 
--- src/bytes_range.rt:195:13
 returns-2 : tie.Need-returns-2
 returns-2 c =
-    let x = c .before .before .before .before .before .before .args in
+    let x = start (c .before .before .before) .args in
     new-by (range (bound (x .start) (now (x .start-key))) (bound (x .end) (now (x .end-key)))) (sym (c .before .before .before .too-long .ensures) ∙ c .before .before .if1 .left) (sym (c .before .too-long2 .ensures) ∙ c .if2 .taken) refl
 
--- src/bytes_range.rt:197:13
 new-requires : tie.Need-new-requires
 new-requires c κs = search needs
 
--- src/bytes_range.rt:198:12
 non-empty-requires : tie.Need-non-empty-requires
 non-empty-requires c κs = search needs
 
--- src/bytes_range.rt:199:13
 returns-3 : tie.Need-returns-3
-returns-3 c =
-    let x = c .before .before .before .before .before .before .before .before .before .args in
-    let n = c .before .before .new .ensures in
-    new-by (range (bound (x .start) (now (x .start-key))) (bound (x .end) (now (x .end-key)))) (sym (c .before .before .before .before .before .before .too-long .ensures) ∙ c .before .before .before .before .before .if1 .left) (sym (c .before .before .before .before .too-long2 .ensures) ∙ c .before .before .before .if2 .left)
-    (sym (c .before .non-empty .ensures ∙ (λ i. notEmptyPair (bound (n .0 i) (now (x .start-key))) (bound (n .1 i) (now (x .end-key))))) ∙ c .if3 .taken)
+returns-3 c = judged (c .before) true (c .if3 .taken)
 
--- src/bytes_range.rt:188:5
 returns-4 : tie.Need-returns-4
-returns-4 c =
-    let x = c .before .before .before .before .before .before .before .before .before .args in
-    let n = c .before .before .new .ensures in
-    new-by (range (bound (x .start) (now (x .start-key))) (bound (x .end) (now (x .end-key)))) (sym (c .before .before .before .before .before .before .too-long .ensures) ∙ c .before .before .before .before .before .if1 .left) (sym (c .before .before .before .before .too-long2 .ensures) ∙ c .before .before .before .if2 .left)
-    (sym (c .before .non-empty .ensures ∙ (λ i. notEmptyPair (bound (n .0 i) (now (x .start-key))) (bound (n .1 i) (now (x .end-key))))) ∙ c .if3 .left)
+returns-4 c = judged (c .before) false (c .if3 .left)
 
 pub new-spec : {M : Type 1} → statement M
 new-spec =

@@ -1,15 +1,11 @@
+-- Both bounds are the one that is nothing.
 use borrow.Author.Needs.{needs}
 use Rattle.ranges.proofs.bytes_range.MadeRange.refused.Statement.{statement}
 use Rattle.ranges.proofs.bytes_range.MadeRange.refused.Tie as tie
-use Rattle.ranges.proofs.bytes_range.MadeRange.refused.Reads as reads
-use Rattle.ranges.proofs.bytes_range.MadeRange.refused.Lts as lts
-use Rattle.ranges.proofs.made.Made.nothing.Reads as nothing-reads
 
--- src/bytes_range.rt:66:13
 nothing-requires : tie.Need-nothing-requires
 nothing-requires c κs = search needs
 
--- src/bytes_range.rt:63:5
 returns : tie.Need-returns
 returns c =
     let z = c .before .before .nothing .ensures in λ i. record { making = c .before .before .before .args .making; start = z i .bound; end = z i .bound }
