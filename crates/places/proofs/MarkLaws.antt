@@ -16,6 +16,7 @@ use Rattle.fields.specs.Fields.{boundTag}
 use Rattle.machine.specs.State.{Bytes, base}
 use Rattle.machine.specs.Sets.{equal}
 use Rattle.codec.proofs.NumberLaws.{stands-number}
+use Rattle.ranges.proofs.MadeLaws.{bound-back}
 use Rattle.moves.proofs.SpliceLaws.{drop-take}
 use Rattle.layout.specs.Keys.{keyForm, boundForm, rangeForm}
 use Rattle.layout.specs.Places.{Part, Here, Ends}
@@ -75,11 +76,6 @@ kind-is s at k small t = record { is = tagged }
         let o = open-bound (base .key) p in
         let tag : getD s at 0 ≡ boundTag (kindOf b) = number-read-is 1 (o .tag-at) (stands-number 1 s at _ (o .tag-at .inside) small refl) in
         t ∙ ap tagKind tag ∙ tag-kind (kindOf b)
-
-bound-back : (b : Bound) → bound (kindOf b) (keyOf b) ≡ b
-bound-back unbounded = refl
-bound-back (included k) = refl
-bound-back (excluded k) = refl
 
 -- the two bounds of a range
 module _ (s : List ℕ) (at : ℕ) where

@@ -15,7 +15,7 @@ use Rattle.ranges.specs.declared.made.Made.{Made}
 use Rattle.ranges.specs.Made.{Sized, isDone, tooLong, kindOf, keyOf, madeOf, made, madeBound}
 use Rattle.ranges.specs.Making.{newOf, madeAs, answered, madeRange}
 use Rattle.ranges.specs.Prefixes.{subStart}
-use Rattle.ranges.proofs.MadeLaws.{take-padded, length-padded}
+use Rattle.ranges.proofs.MadeLaws.{take-padded, length-padded, bound-back}
 
 done-by : (t : Bool) (b : Bound) → isDone (cond t (made TooLong unbounded) (made Done b) .making) ≡ true → cond t (made TooLong unbounded) (made Done b) ≡ made Done b
 done-by true b e = cc
@@ -48,16 +48,11 @@ sized b e = rw e (go (tooLong b) refl)
     go true h = sized-done TooLong unbounded refl
     go false h = sized-done Done b h
 
-same-bound : (b : Bound) → bound (kindOf b) (keyOf b) ≡ b
-same-bound unbounded = refl
-same-bound (included k) = refl
-same-bound (excluded k) = refl
-
 -- a made bound read back
 pub read-back : (b : Bound) {m : Made} → m ≡ made Done b → bound (m .bound .kind) (take (m .bound .len) (m .bound .bytes)) ≡ b
 unfolding madeOf
 read-back b e =
-    (λ i. bound (e i .bound .kind) (take (e i .bound .len) (e i .bound .bytes))) ∙ ap (bound (kindOf b)) (take-padded (keyOf b)) ∙ same-bound b
+    (λ i. bound (e i .bound .kind) (take (e i .bound .len) (e i .bound .bytes))) ∙ ap (bound (kindOf b)) (take-padded (keyOf b)) ∙ bound-back b
 
 module _ (s e : Bound) where
   pub long-start : tooLong s ≡ true → madeAs TooLong unbounded unbounded ≡ madeRange (range s e)

@@ -11,11 +11,11 @@ use lib.Seq.{paste, take-append-seam, take-length, drop-append-add, set-append-l
 use Rattle.keys.specs.Limit.{keyLimit}
 use Rattle.kinds.specs.declared.kind.Kind.{Kind}
 use Rattle.kinds.specs.declared.kind.Kind.the-variants.{Unbounded, Included, Excluded}
-use Rattle.kinds.specs.Bounds.{unbounded, bound, isBounded}
+use Rattle.kinds.specs.Bounds.{Bound, unbounded, included, excluded, bound, isBounded}
 use Rattle.ranges.specs.declared.made.Making.{Making}
 use Rattle.ranges.specs.declared.made.Making.the-variants.{Done, TooLong}
 use Rattle.ranges.specs.declared.made.Made.{Made}
-use Rattle.ranges.specs.Made.{padded, madeOf, made, madeBound}
+use Rattle.ranges.specs.Made.{kindOf, keyOf, padded, madeOf, made, madeBound}
 
 drop-replicate : (n m : ℕ) → drop {A = ℕ} n (replicate m 0) ≡ replicate (m - n) 0
 drop-replicate zero m = simp unary-clauses
@@ -76,3 +76,9 @@ joined-bytes k p s e h hy hz =
     let b = hz ∙ ap (λ w. paste w (length p) s (length s)) hy ∙ put-after p s h in
     let n = sym (length-append p s) in
     (λ i. filled Done k (n i) (b i)) ∙ bytes-of k (p ++ s) e ∙ made-short k (p ++ s) e (omega (arith, length-append p s))
+
+-- a bound is its kind with its key
+pub bound-back : (b : Bound) → bound (kindOf b) (keyOf b) ≡ b
+bound-back unbounded = refl
+bound-back (included k) = refl
+bound-back (excluded k) = refl

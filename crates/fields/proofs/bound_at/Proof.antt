@@ -1,3 +1,4 @@
+-- By the field's tag: a bound of that kind, where an unbounded one has no payload.
 use borrow.Author.Needs.{needs}
 use denote.Ref.{now}
 use Rattle.fields.specs.declared.FieldAt.{FieldAt}
@@ -5,9 +6,6 @@ use Rattle.fields.specs.Forms.{FieldIs}
 use Rattle.fields.proofs.Bounds.{bounds-cut, bounds-end, unbounded-here, unbounded-full, included-here, excluded-here, tag-unknown}
 use Rattle.fields.proofs.bound_at.Statement.{statement}
 use Rattle.fields.proofs.bound_at.Tie as tie
-use Rattle.fields.proofs.bound_at.Reads as reads
-use Rattle.fields.proofs.bound_at.Lts as lts
-use Rattle.fields.proofs.field_at.Reads as field-at-reads
 
 -- the field that was read
 seen : (c : tie.After-tag) → FieldIs (now (c .before .before .before .before .args .bytes)) (c .before .before .before .before .args .at) (FieldAt.At (c .tag .given .0 .0) (c .tag .given .0 .1 .0) (c .tag .given .0 .1 .1 .0))

@@ -1,3 +1,4 @@
+-- The verdict on the whole list is the verdict on what is left of it, by whether the keys so far were short.
 use Prim.Native.Nat.{_-_}
 use mathlib.Core.Path.{_≡_, sym, ap, _∙_}
 use mathlib.Core.Bool.{cond}
@@ -12,9 +13,6 @@ use Rattle.fields.specs.Forms.{NextIs, formOf}
 use Rattle.fields.proofs.Keys.{formAfter, form-start, form-end, form-bad, form-long, form-short}
 use Rattle.fields.proofs.check_keys.Statement.{statement}
 use Rattle.fields.proofs.check_keys.Tie as tie
-use Rattle.fields.proofs.check_keys.Reads as reads
-use Rattle.fields.proofs.check_keys.Lts as lts
-use Rattle.fields.proofs.next_key.Reads as next-key-reads
 
 abbrev Inv-loop : tie.InvT-loop
 Inv-loop list at₀ short₀ at short = formOf (keyList list) ≡ formAfter short (keyList (drop at list))

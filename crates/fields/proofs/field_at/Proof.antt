@@ -1,11 +1,9 @@
+-- The head and the payload are there, or the bytes end before, within or behind the head.
 use native.Mathlib.Omega.{arith}
 use borrow.Author.Needs.{needs}
 use Rattle.fields.proofs.Reading.{ends-at, head-cut, payload-cut, field-here}
 use Rattle.fields.proofs.field_at.Statement.{statement}
 use Rattle.fields.proofs.field_at.Tie as tie
-use Rattle.fields.proofs.field_at.Reads as reads
-use Rattle.fields.proofs.field_at.Lts as lts
-use Rattle.fields.proofs.wide.Reads as wide-reads
 
 returns : tie.Need-returns
 returns c = ends-at _ _ (omega arith)

@@ -1,3 +1,4 @@
+-- A field with a key's tag is a key; another field or a cut one breaks the list.
 use borrow.Author.Needs.{needs}
 use denote.Ref.{now}
 use Rattle.fields.specs.declared.FieldAt.{FieldAt}
@@ -5,9 +6,6 @@ use Rattle.fields.specs.Forms.{FieldIs}
 use Rattle.fields.proofs.Keys.{keys-cut, key-here, key-broken}
 use Rattle.fields.proofs.next_key.Statement.{statement}
 use Rattle.fields.proofs.next_key.Tie as tie
-use Rattle.fields.proofs.next_key.Reads as reads
-use Rattle.fields.proofs.next_key.Lts as lts
-use Rattle.fields.proofs.field_at.Reads as field-at-reads
 
 -- the field that was read
 seen : (c : tie.After-tag) → FieldIs (now (c .before .before .before .before .args .list)) (c .before .before .before .before .args .at) (FieldAt.At (c .tag .given .0 .0) (c .tag .given .0 .1 .0) (c .tag .given .0 .1 .1 .0))

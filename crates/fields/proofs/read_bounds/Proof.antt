@@ -1,3 +1,4 @@
+-- The start is the bound at 0, the end the one behind it, and nothing follows.
 use borrow.Author.Needs.{needs}
 use denote.Ref.{now}
 use Rattle.fields.specs.declared.BoundAt.{BoundAt}
@@ -5,15 +6,15 @@ use Rattle.fields.specs.Forms.{BoundFieldIs}
 use Rattle.fields.proofs.Bounds.{start-lacks, end-lacks, more-left, bounds-here}
 use Rattle.fields.proofs.read_bounds.Statement.{statement}
 use Rattle.fields.proofs.read_bounds.Tie as tie
-use Rattle.fields.proofs.read_bounds.Reads as reads
-use Rattle.fields.proofs.read_bounds.Lts as lts
-use Rattle.fields.proofs.bound_at.Reads as bound-at-reads
+
+abbrev start : tie.After-start → tie.Start
+start c = c .before .before .before .before
 
 -- the two bounds that were read
-start-seen : (c : tie.After-start) → BoundFieldIs (now (c .before .before .before .before .args .bytes)) 0 (BoundAt.Found (c .start .given .0 .0) (c .start .given .0 .1 .0) (c .start .given .0 .1 .1 .0))
+start-seen : (c : tie.After-start) → BoundFieldIs (now (start c .args .bytes)) 0 (BoundAt.Found (c .start .given .0 .0) (c .start .given .0 .1 .0) (c .start .given .0 .1 .1 .0))
 start-seen c = rw (c .start .given .1) at (c .before .before .bound-at .ensures)
 
-end-seen : (c : tie.After-end) → BoundFieldIs (now (c .before .before .before .before .before .before .before .before .args .bytes)) (c .before .before .before .before .start .given .0 .1 .1 .0) (BoundAt.Found (c .end .given .0 .0) (c .end .given .0 .1 .0) (c .end .given .0 .1 .1 .0))
+end-seen : (c : tie.After-end) → BoundFieldIs (now (start (c .before .before .before .before) .args .bytes)) (c .before .before .before .before .start .given .0 .1 .1 .0) (BoundAt.Found (c .end .given .0 .0) (c .end .given .0 .1 .0) (c .end .given .0 .1 .1 .0))
 end-seen c = rw (c .end .given .1) at (c .before .before .bound-at2 .ensures)
 
 bound-at-requires : tie.Need-bound-at-requires
@@ -41,10 +42,14 @@ returns-2 : tie.Need-returns-2
 returns-2 c = end-lacks _ _ _ _ _ (start-seen (c .before .before .before .before)) (rw (c .enum-told2 .given .1) at (c .before .before .bound-at2 .ensures))
 
 returns-3 : tie.Need-returns-3
-returns-3 c = more-left _ _ _ _ _ (start-seen (c .before .before .before .before .before .before)) _ _ _ _ (end-seen (c .before .before)) (c .if1 .taken)
+returns-3 c =
+    let end = c .before .before in
+    more-left _ _ _ _ _ (start-seen (end .before .before .before .before)) _ _ _ _ (end-seen end) (c .if1 .taken)
 
 returns-4 : tie.Need-returns-4
-returns-4 c = bounds-here _ _ (start-seen (c .before .before .before .before .before .before)) (end-seen (c .before .before)) (c .if1 .left)
+returns-4 c =
+    let end = c .before .before in
+    bounds-here _ _ (start-seen (end .before .before .before .before)) (end-seen end) (c .if1 .left)
 
 pub read-bounds-spec : {M : Type 1} → statement M
 read-bounds-spec =
