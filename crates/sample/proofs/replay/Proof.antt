@@ -1,3 +1,4 @@
+-- Each turn goes on, or stops where a query does not read.
 use Prim.Native.Nat.{_-_}
 use native.Mathlib.Omega.{arith}
 use lib.ListN.{length}

@@ -1,9 +1,7 @@
+-- The number is that of the made bound's kind, the bytes are its own.
 use borrow.Author.Needs.{needs}
 use Rattle.stranvek.proofs.boundary.key_of.Statement.{statement}
 use Rattle.stranvek.proofs.boundary.key_of.Tie as tie
-use Rattle.stranvek.proofs.boundary.key_of.Reads as reads
-use Rattle.stranvek.proofs.boundary.key_of.Lts as lts
-use Rattle.stranvek.proofs.boundary.number_of.Reads as number-of-reads
 
 number-of-requires : tie.Need-number-of-requires
 number-of-requires c κs = search needs

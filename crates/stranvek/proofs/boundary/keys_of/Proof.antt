@@ -1,10 +1,7 @@
+-- Status and keys are those of the parts.
 use borrow.Author.Needs.{needs}
 use Rattle.stranvek.proofs.boundary.keys_of.Statement.{statement}
 use Rattle.stranvek.proofs.boundary.keys_of.Tie as tie
-use Rattle.stranvek.proofs.boundary.keys_of.Reads as reads
-use Rattle.stranvek.proofs.boundary.keys_of.Lts as lts
-use Rattle.stranvek.proofs.boundary.key_of.Reads as key-of-reads
-use Rattle.stranvek.proofs.boundary.status_of.Reads as status-of-reads
 
 status-of-requires : tie.Need-status-of-requires
 status-of-requires c κs = search needs

@@ -1,8 +1,7 @@
+-- The two tests are those of the definition.
 use borrow.Author.Tests.{eq-eqb, ne-eqb}
 use Rattle.stranvek.proofs.boundary.kind_at.Statement.{statement}
 use Rattle.stranvek.proofs.boundary.kind_at.Tie as tie
-use Rattle.stranvek.proofs.boundary.kind_at.Reads as reads
-use Rattle.stranvek.proofs.boundary.kind_at.Lts as lts
 
 returns : tie.Need-returns
 returns c = rw (eq-eqb _ _ (c .if1 .taken))

@@ -1,13 +1,7 @@
+-- Each bound has the number of the kind on its side, and that side's number.
 use borrow.Author.Needs.{needs}
-use mathlib.Core.Path.{sym, ap, _∙_}
-use Rattle.stranvek.specs.Boundary.{paired}
 use Rattle.stranvek.proofs.boundary.pair_of.Statement.{statement}
 use Rattle.stranvek.proofs.boundary.pair_of.Tie as tie
-use Rattle.stranvek.proofs.boundary.pair_of.Reads as reads
-use Rattle.stranvek.proofs.boundary.pair_of.Lts as lts
-use Rattle.bounds.proofs.sides.Side.kind.Reads as kind-reads
-use Rattle.stranvek.proofs.boundary.number_of.Reads as number-of-reads
-use Rattle.stranvek.proofs.boundary.side_number.Reads as side-number-reads
 
 enum-known-combined : tie.Need-enum-known-combined
 enum-known-combined c = search needs
@@ -35,11 +29,13 @@ enum-told c = search needs
 
 returns : tie.Need-returns
 returns c =
+    let start = c .before .before .before in
+    let known = start .before .before .before .before in
     rw (
-      c .before .before .before .before .before .before .before .combined .given .1,
-      c .before .before .before .before .number-of .ensures,
-      c .before .before .before .before .before .kind .ensures,
-      c .before .before .before .side-number .ensures,
+      known .combined .given .1,
+      start .before .number-of .ensures,
+      start .before .before .kind .ensures,
+      start .side-number .ensures,
       c .before .number-of2 .ensures,
       c .before .before .kind2 .ensures,
       c .side-number2 .ensures,

@@ -1,11 +1,8 @@
+-- The pair of the two kinds that the numbers name.
 use borrow.Author.Needs.{needs}
-use mathlib.Core.Path.{sym, ap, _∙_}
+use mathlib.Core.Path.{_∙_}
 use Rattle.stranvek.proofs.boundary.range_at.Statement.{statement}
 use Rattle.stranvek.proofs.boundary.range_at.Tie as tie
-use Rattle.stranvek.proofs.boundary.range_at.Reads as reads
-use Rattle.stranvek.proofs.boundary.range_at.Lts as lts
-use Rattle.bounds.proofs.comparable_range.ComparableRange.new.Reads as new-reads
-use Rattle.stranvek.proofs.boundary.kind_at.Reads as kind-at-reads
 
 kind-at-requires : tie.Need-kind-at-requires
 kind-at-requires c κs = search needs

@@ -1,14 +1,14 @@
+-- The answer for the two pairs that the numbers name.
 use borrow.Author.Needs.{needs}
 use Rattle.bounds.specs.Ranges.{rangeOf, touches}
-use mathlib.Core.Path.{sym, ap, _∙_}
+use mathlib.Core.Path.{ap, _∙_}
 use denote.Ref.{now}
 use Rattle.stranvek.specs.Answers.{told}
 use Rattle.stranvek.proofs.bytes_range.stranvek_are_adjacent.Statement.{statement}
 use Rattle.stranvek.proofs.bytes_range.stranvek_are_adjacent.Tie as tie
-use Rattle.stranvek.proofs.bytes_range.stranvek_are_adjacent.Reads as reads
-use Rattle.stranvek.proofs.bytes_range.stranvek_are_adjacent.Lts as lts
-use Rattle.bounds.proofs.comparable_range.ComparableRange.are_adjacent.Reads as are-adjacent-reads
-use Rattle.stranvek.proofs.boundary.range_at.Reads as range-at-reads
+
+abbrev start : tie.After-range-at → tie.Start
+start c = c .before .before .before .before .before
 
 range-at-requires : tie.Need-range-at-requires
 range-at-requires c κs = search needs
@@ -21,7 +21,7 @@ are-adjacent-requires c κs = search needs
 
 returns : tie.Need-returns
 returns c =
-    let x = c .before .before .before .before .before .before .before .args in
+    let x = start (c .before .before) .args in
     ap told (c .are-adjacent .ensures ∙ (λ i. touches (rangeOf (c .before .before .range-at .ensures i) (now (x .start-key)) (now (x .end-key))) (rangeOf (c .before .range-at2 .ensures i) (now (x .other-start-key)) (now (x .other-end-key)))))
 
 pub stranvek-are-adjacent-spec : {M : Type 1} → statement M

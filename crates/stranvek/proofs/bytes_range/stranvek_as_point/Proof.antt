@@ -1,14 +1,11 @@
+-- The answer for the pair that the numbers name.
 use borrow.Author.Needs.{needs}
 use Rattle.bounds.specs.Ranges.{rangeOf, isPoint}
-use mathlib.Core.Path.{sym, ap, _∙_}
+use mathlib.Core.Path.{ap, _∙_}
 use denote.Ref.{now}
 use Rattle.stranvek.specs.Answers.{told}
 use Rattle.stranvek.proofs.bytes_range.stranvek_as_point.Statement.{statement}
 use Rattle.stranvek.proofs.bytes_range.stranvek_as_point.Tie as tie
-use Rattle.stranvek.proofs.bytes_range.stranvek_as_point.Reads as reads
-use Rattle.stranvek.proofs.bytes_range.stranvek_as_point.Lts as lts
-use Rattle.stranvek.proofs.boundary.range_at.Reads as range-at-reads
-use Rattle.ranges.proofs.bytes_range.BytesRange.as_point.Reads as as-point-reads
 
 range-at-requires : tie.Need-range-at-requires
 range-at-requires c κs = search needs

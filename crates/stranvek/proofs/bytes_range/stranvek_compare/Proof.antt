@@ -1,13 +1,10 @@
+-- The answer of `compare`, whose sign fits a byte.
 use borrow.Author.Needs.{needs}
 use Rattle.keys.specs.Order.{order}
-use mathlib.Core.Path.{sym, ap, _∙_}
 use denote.Ref.{now}
 use Rattle.stranvek.proofs.AnswerLaws.{compare-answer}
 use Rattle.stranvek.proofs.bytes_range.stranvek_compare.Statement.{statement}
 use Rattle.stranvek.proofs.bytes_range.stranvek_compare.Tie as tie
-use Rattle.stranvek.proofs.bytes_range.stranvek_compare.Reads as reads
-use Rattle.stranvek.proofs.bytes_range.stranvek_compare.Lts as lts
-use Rattle.keys.proofs.compare.Reads as compare-reads
 
 compare-requires : tie.Need-compare-requires
 compare-requires c κs = search needs

@@ -1,16 +1,13 @@
+-- The order of the two ends that the numbers name, whose sign fits a byte.
 use borrow.Author.Needs.{needs}
 use Rattle.keys.specs.Order.{sign}
 use Rattle.kinds.specs.Bounds.{bound, endOrder}
 use Rattle.stranvek.specs.Boundary.{boundAt}
-use mathlib.Core.Path.{sym, ap, _∙_}
+use mathlib.Core.Path.{_∙_}
 use denote.Ref.{now}
 use Rattle.stranvek.proofs.AnswerLaws.{compare-answer}
 use Rattle.stranvek.proofs.bytes_range.stranvek_compare_end.Statement.{statement}
 use Rattle.stranvek.proofs.bytes_range.stranvek_compare_end.Tie as tie
-use Rattle.stranvek.proofs.bytes_range.stranvek_compare_end.Reads as reads
-use Rattle.stranvek.proofs.bytes_range.stranvek_compare_end.Lts as lts
-use Rattle.kinds.proofs.kind.Kind.compare_end.Reads as compare-end-reads
-use Rattle.stranvek.proofs.boundary.kind_at.Reads as kind-at-reads
 
 kind-at-requires : tie.Need-kind-at-requires
 kind-at-requires c κs = search needs

@@ -1,16 +1,16 @@
+-- The order of the two pairs that the numbers name, whose sign fits a byte.
 use borrow.Author.Needs.{needs}
 use Rattle.keys.specs.Order.{sign}
 use Rattle.bounds.specs.Ranges.{rangeOf, rangeOrder}
 use Rattle.stranvek.specs.Boundary.{rangeAt}
-use mathlib.Core.Path.{sym, ap, _∙_}
+use mathlib.Core.Path.{_∙_}
 use denote.Ref.{now}
 use Rattle.stranvek.proofs.AnswerLaws.{compare-answer}
 use Rattle.stranvek.proofs.bytes_range.stranvek_compare_range.Statement.{statement}
 use Rattle.stranvek.proofs.bytes_range.stranvek_compare_range.Tie as tie
-use Rattle.stranvek.proofs.bytes_range.stranvek_compare_range.Reads as reads
-use Rattle.stranvek.proofs.bytes_range.stranvek_compare_range.Lts as lts
-use Rattle.bounds.proofs.comparable_range.ComparableRange.compare.Reads as compare-reads
-use Rattle.stranvek.proofs.boundary.range_at.Reads as range-at-reads
+
+abbrev start : tie.After-range-at → tie.Start
+start c = c .before .before .before .before .before
 
 range-at-requires : tie.Need-range-at-requires
 range-at-requires c κs = search needs
@@ -23,7 +23,7 @@ compare-requires c κs = search needs
 
 returns : tie.Need-returns
 returns c =
-    let x = c .before .before .before .before .before .before .before .args in
+    let x = start (c .before .before) .args in
     compare-answer (rangeOrder (rangeAt (x .start-kind) (now (x .start-key)) (x .end-kind) (now (x .end-key))) (rangeAt (x .other-start-kind) (now (x .other-start-key)) (x .other-end-kind) (now (x .other-end-key)))) (c .compare .ensures ∙ (λ i. sign (rangeOrder (rangeOf (c .before .before .range-at .ensures i) (now (x .start-key)) (now (x .end-key))) (rangeOf (c .before .range-at2 .ensures i) (now (x .other-start-key)) (now (x .other-end-key))))))
 
 pub stranvek-compare-range-spec : {M : Type 1} → statement M

@@ -1,11 +1,9 @@
+-- The answer of `equal`, with status 0.
 use borrow.Author.Needs.{needs}
-use mathlib.Core.Path.{sym, ap, _∙_}
+use mathlib.Core.Path.{ap}
 use Rattle.stranvek.specs.Answers.{told}
 use Rattle.stranvek.proofs.bytes_range.stranvek_equal.Statement.{statement}
 use Rattle.stranvek.proofs.bytes_range.stranvek_equal.Tie as tie
-use Rattle.stranvek.proofs.bytes_range.stranvek_equal.Reads as reads
-use Rattle.stranvek.proofs.bytes_range.stranvek_equal.Lts as lts
-use Rattle.keys.proofs.equal.Reads as equal-reads
 
 equal-requires : tie.Need-equal-requires
 equal-requires c κs = search needs

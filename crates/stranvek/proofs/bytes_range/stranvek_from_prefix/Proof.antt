@@ -1,12 +1,10 @@
+-- The made range, as the struct that the host reads.
 use borrow.Author.Needs.{needs}
-use mathlib.Core.Path.{sym, ap, _∙_}
+use mathlib.Core.Path.{ap, _∙_}
 use Rattle.stranvek.specs.Boundary.{madeKeys}
 use Rattle.stranvek.proofs.bytes_range.stranvek_from_prefix.Statement.{statement}
 use Rattle.stranvek.proofs.bytes_range.stranvek_from_prefix.Tie as tie
 use Rattle.stranvek.proofs.bytes_range.stranvek_from_prefix.Reads as reads
-use Rattle.stranvek.proofs.bytes_range.stranvek_from_prefix.Lts as lts
-use Rattle.stranvek.proofs.boundary.keys_of.Reads as keys-of-reads
-use Rattle.ranges.proofs.bytes_range.BytesRange.from_prefix.Reads as from-prefix-reads
 
 from-prefix-requires : tie.Need-from-prefix-requires
 from-prefix-requires c κs = search needs

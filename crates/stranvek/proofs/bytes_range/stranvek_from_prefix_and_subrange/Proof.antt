@@ -1,5 +1,6 @@
+-- The made range for the subrange that the numbers name, as the struct that the host reads.
 use borrow.Author.Needs.{needs}
-use mathlib.Core.Path.{sym, ap, _∙_}
+use mathlib.Core.Path.{ap, _∙_}
 use denote.Ref.{now}
 use Rattle.bounds.specs.Ranges.{rangeOf}
 use Rattle.ranges.specs.Prefixes.{subrangeOf}
@@ -8,10 +9,9 @@ use Rattle.stranvek.specs.Boundary.{madeKeys}
 use Rattle.stranvek.proofs.bytes_range.stranvek_from_prefix_and_subrange.Statement.{statement}
 use Rattle.stranvek.proofs.bytes_range.stranvek_from_prefix_and_subrange.Tie as tie
 use Rattle.stranvek.proofs.bytes_range.stranvek_from_prefix_and_subrange.Reads as reads
-use Rattle.stranvek.proofs.bytes_range.stranvek_from_prefix_and_subrange.Lts as lts
-use Rattle.stranvek.proofs.boundary.keys_of.Reads as keys-of-reads
-use Rattle.stranvek.proofs.boundary.range_at.Reads as range-at-reads
-use Rattle.ranges.proofs.bytes_range.BytesRange.from_prefix_and_subrange.Reads as from-prefix-and-subrange-reads
+
+abbrev start : tie.After-range-at → tie.Start
+start c = c .before .before .before .before
 
 range-at-requires : tie.Need-range-at-requires
 range-at-requires c κs = search needs
@@ -24,7 +24,7 @@ keys-of-requires c κs = search needs
 
 returns : tie.Need-returns
 returns c =
-    let x = c .before .before .before .before .before .before .args in
+    let x = start (c .before .before) .args in
     c .keys-of .ensures ∙ ap madeKeys (c .before .from-prefix-and-subrange .ensures ∙ (λ i. madeRange (subrangeOf (now (x .prefix)) (rangeOf (c .before .before .range-at .ensures i) (now (x .start-key)) (now (x .end-key))))))
 
 pub stranvek-from-prefix-and-subrange-spec : {M : Type 1} → statement M

@@ -1,14 +1,11 @@
+-- The made key, as the struct that the host reads.
 use borrow.Author.Needs.{needs}
-use mathlib.Core.Path.{sym, ap, _∙_}
+use mathlib.Core.Path.{ap, _∙_}
 use Rattle.ranges.specs.Made.{status}
 use Rattle.stranvek.specs.Boundary.{key}
 use Rattle.stranvek.proofs.bytes_range.stranvek_increment_prefix.Statement.{statement}
 use Rattle.stranvek.proofs.bytes_range.stranvek_increment_prefix.Tie as tie
 use Rattle.stranvek.proofs.bytes_range.stranvek_increment_prefix.Reads as reads
-use Rattle.stranvek.proofs.bytes_range.stranvek_increment_prefix.Lts as lts
-use Rattle.stranvek.proofs.boundary.key_of.Reads as key-of-reads
-use Rattle.stranvek.proofs.boundary.status_of.Reads as status-of-reads
-use Rattle.ranges.proofs.bytes_range.BytesRange.increment_prefix.Reads as increment-prefix-reads
 
 increment-prefix-requires : tie.Need-increment-prefix-requires
 increment-prefix-requires c κs = search needs

@@ -1,5 +1,6 @@
+-- The new range's status for the pair that the numbers name, and its kinds where it was made.
 use borrow.Author.Needs.{needs}
-use mathlib.Core.Path.{sym, ap, _∙_}
+use mathlib.Core.Path.{_≡_, sym, ap, _∙_}
 use denote.Ref.{now}
 use Rattle.kinds.specs.Bounds.{bound}
 use Rattle.bounds.specs.Ranges.{range}
@@ -11,13 +12,15 @@ use Rattle.stranvek.specs.Boundary.{kindAt, rangeAt}
 use Rattle.stranvek.proofs.AnswerLaws.{bounded, new-done, new-refused}
 use Rattle.stranvek.proofs.bytes_range.stranvek_new_range.Statement.{statement}
 use Rattle.stranvek.proofs.bytes_range.stranvek_new_range.Tie as tie
-use Rattle.stranvek.proofs.bytes_range.stranvek_new_range.Reads as reads
-use Rattle.stranvek.proofs.bytes_range.stranvek_new_range.Lts as lts
-use Rattle.stranvek.proofs.boundary.kind_at.Reads as kind-at-reads
-use Rattle.stranvek.proofs.boundary.number_of.Reads as number-of-reads
-use Rattle.stranvek.proofs.boundary.status_of.Reads as status-of-reads
-use Rattle.ranges.proofs.bytes_range.BytesRange.new.Reads as new-reads
-use Rattle.ranges.proofs.made.Making.is_done.Reads as is-done-reads
+
+abbrev start : tie.After-kind-at2 → tie.Start
+start c = c .before .before .before .before
+
+-- the verdict on the pair that the numbers name
+verdict : (c : tie.After-new) → let x = start (c .before) .args in c .new .result ≡ newOf (rangeAt (x .start-kind) (now (x .start-key)) (x .end-kind) (now (x .end-key)))
+verdict c =
+    let x = start (c .before) .args in
+    c .new .ensures ∙ (λ i. newOf (range (bound (c .before .before .kind-at .ensures i) (now (x .start-key))) (bound (c .before .kind-at2 .ensures i) (now (x .end-key)))))
 
 kind-at-requires : tie.Need-kind-at-requires
 kind-at-requires c κs = search needs
@@ -39,11 +42,12 @@ number-of-requires-2 c κs = search needs
 
 returns : tie.Need-returns
 returns c =
-    let x = c .before .before .before .before .before .before .before .before .before .args in
-    let s = c .before .before .before .before .before .before .kind-at .ensures in
-    let e = c .before .before .before .before .before .kind-at2 .ensures in
-    let m = c .before .before .before .before .new .ensures ∙ (λ i. newOf (range (bound (s i) (now (x .start-key))) (bound (e i) (now (x .end-key))))) in
-    let d = sym (ap isDone m) ∙ sym (c .before .before .before .is-done .ensures) ∙ c .before .before .if1 .taken in
+    let judged = c .before .before in
+    let made = judged .before .before in
+    let x = start (made .before) .args in
+    let s = made .before .before .kind-at .ensures in
+    let e = made .before .kind-at2 .ensures in
+    let d = sym (ap isDone (verdict made)) ∙ sym (judged .before .is-done .ensures) ∙ judged .if1 .taken in
     (λ i. bounded 0 ((c .before .number-of .ensures ∙ ap boundTag s) i) ((c .number-of2 .ensures ∙ ap boundTag e) i))
     ∙ new-done (newOf (rangeAt (x .start-kind) (now (x .start-key)) (x .end-kind) (now (x .end-key)))) (kindAt (x .start-kind)) (kindAt (x .end-kind)) d
 
@@ -52,12 +56,10 @@ status-of-requires c κs = search needs
 
 returns-2 : tie.Need-returns-2
 returns-2 c =
-    let x = c .before .before .before .before .before .before .before .before .args in
-    let s = c .before .before .before .before .before .kind-at .ensures in
-    let e = c .before .before .before .before .kind-at2 .ensures in
-    let m = c .before .before .before .new .ensures ∙ (λ i. newOf (range (bound (s i) (now (x .start-key))) (bound (e i) (now (x .end-key))))) in
-    let d = sym (ap isDone m) ∙ sym (c .before .before .is-done .ensures) ∙ c .before .if1 .left in
-    ap (λ n. bounded n (boundTag Unbounded) (boundTag Unbounded)) (c .status-of .ensures ∙ ap status m) ∙ new-refused (newOf (rangeAt (x .start-kind) (now (x .start-key)) (x .end-kind) (now (x .end-key)))) (kindAt (x .start-kind)) (kindAt (x .end-kind)) d
+    let made = c .before .before .before in
+    let x = start (made .before) .args in
+    let d = sym (ap isDone (verdict made)) ∙ sym (c .before .before .is-done .ensures) ∙ c .before .if1 .left in
+    ap (λ n. bounded n (boundTag Unbounded) (boundTag Unbounded)) (c .status-of .ensures ∙ ap status (verdict made)) ∙ new-refused (newOf (rangeAt (x .start-kind) (now (x .start-key)) (x .end-kind) (now (x .end-key)))) (kindAt (x .start-kind)) (kindAt (x .end-kind)) d
 
 pub stranvek-new-range-spec : {M : Type 1} → statement M
 stranvek-new-range-spec =

@@ -1,14 +1,11 @@
+-- The answer for the pair that the numbers name.
 use borrow.Author.Needs.{needs}
 use Rattle.bounds.specs.Ranges.{rangeOf, notEmpty}
-use mathlib.Core.Path.{sym, ap, _∙_}
+use mathlib.Core.Path.{ap, _∙_}
 use denote.Ref.{now}
 use Rattle.stranvek.specs.Answers.{told}
 use Rattle.stranvek.proofs.bytes_range.stranvek_non_empty.Statement.{statement}
 use Rattle.stranvek.proofs.bytes_range.stranvek_non_empty.Tie as tie
-use Rattle.stranvek.proofs.bytes_range.stranvek_non_empty.Reads as reads
-use Rattle.stranvek.proofs.bytes_range.stranvek_non_empty.Lts as lts
-use Rattle.bounds.proofs.comparable_range.ComparableRange.non_empty.Reads as non-empty-reads
-use Rattle.stranvek.proofs.boundary.range_at.Reads as range-at-reads
 
 range-at-requires : tie.Need-range-at-requires
 range-at-requires c κs = search needs

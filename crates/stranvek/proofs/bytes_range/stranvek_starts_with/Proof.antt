@@ -1,11 +1,9 @@
+-- The answer of `starts_with`, with status 0.
 use borrow.Author.Needs.{needs}
-use mathlib.Core.Path.{sym, ap, _∙_}
+use mathlib.Core.Path.{ap}
 use Rattle.stranvek.specs.Answers.{told}
 use Rattle.stranvek.proofs.bytes_range.stranvek_starts_with.Statement.{statement}
 use Rattle.stranvek.proofs.bytes_range.stranvek_starts_with.Tie as tie
-use Rattle.stranvek.proofs.bytes_range.stranvek_starts_with.Reads as reads
-use Rattle.stranvek.proofs.bytes_range.stranvek_starts_with.Lts as lts
-use Rattle.keys.proofs.starts_with.Reads as starts-with-reads
 
 starts-with-requires : tie.Need-starts-with-requires
 starts-with-requires c κs = search needs

@@ -1,15 +1,10 @@
+-- The answer for the two pairs that the numbers name, as sides and numbers of kinds.
 use borrow.Author.Needs.{needs}
-use mathlib.Core.Path.{sym, ap, _∙_}
-use denote.Ref.{now}
-use Rattle.bounds.specs.Ranges.{rangeOf, unionOf}
-use Rattle.stranvek.specs.Boundary.{paired}
+use mathlib.Core.Path.{_∙_}
+use Rattle.bounds.specs.Ranges.{unionOf}
+use Rattle.stranvek.proofs.AnswerLaws.{pairs}
 use Rattle.stranvek.proofs.bytes_range.stranvek_union.Statement.{statement}
 use Rattle.stranvek.proofs.bytes_range.stranvek_union.Tie as tie
-use Rattle.stranvek.proofs.bytes_range.stranvek_union.Reads as reads
-use Rattle.stranvek.proofs.bytes_range.stranvek_union.Lts as lts
-use Rattle.bounds.proofs.comparable_range.ComparableRange.union.Reads as union-reads
-use Rattle.stranvek.proofs.boundary.pair_of.Reads as pair-of-reads
-use Rattle.stranvek.proofs.boundary.range_at.Reads as range-at-reads
 
 range-at-requires : tie.Need-range-at-requires
 range-at-requires c κs = search needs
@@ -25,14 +20,8 @@ pair-of-requires c κs = search needs
 
 returns : tie.Need-returns
 returns c =
-    let x = c .before .before .before .before .before .before .before .before .args in
-    let a = c .before .before .before .range-at .result in
-    let b = c .before .before .range-at2 .result in
-    let p = c .before .before .before .range-at .ensures in
-    let q = c .before .before .range-at2 .ensures in
-    c .pair-of .ensures
-    ∙ ap (λ z. paired z (a .start) (b .start) (a .end) (b .end)) (c .before .union .ensures)
-    ∙ (λ i. paired (unionOf (rangeOf (p i) (now (x .start-key)) (now (x .end-key))) (rangeOf (q i) (now (x .other-start-key)) (now (x .other-end-key)))) (p i .start) (q i .start) (p i .end) (q i .end))
+    let named = c .before .before in
+    c .pair-of .ensures ∙ pairs unionOf _ _ _ _ (c .before .union .ensures) (named .before .range-at .ensures) (named .range-at2 .ensures)
 
 pub stranvek-union-spec : {M : Type 1} → statement M
 stranvek-union-spec =
