@@ -6,7 +6,7 @@ use mathlib.Core.List.{List}
 use native.Mathlib.Omega.{arith}
 use lib.Dec.{eqb}
 use lib.ListN.{length, getD, take, drop}
-use Rattle.kinds.specs.Bounds.{Bound, unbounded, included, excluded, bound}
+use Rattle.kinds.specs.Bounds.{Bound, bound}
 use Rattle.bounds.specs.Ranges.{Range, range, rangeOf, holds}
 use Rattle.bounds.specs.declared.comparable_range.ComparableRange.{ComparableRange}
 use Rattle.kinds.specs.declared.kind.Kind.{Kind}

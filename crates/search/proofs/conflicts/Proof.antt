@@ -1,3 +1,4 @@
+-- In each of the three loops nothing is found yet, so the answer for all is the answer for what is left: entries, keys of an entry, marks.
 use mathlib.Core.Path.{_≡_, refl, sym, ap, _∙_}
 use mathlib.Core.Bool.{false}
 use mathlib.Core.Logic.{⊎-elim}
@@ -16,18 +17,6 @@ use Rattle.search.specs.Search.{marksLeft, Stays}
 use Rattle.search.proofs.SearchLaws.{MarksWalk, KeysWalk, EntriesWalk, txn-room, entry-room, marks-start, marks-stay, marks-none, marks-hit, marks-next, next-less, keys-start, keys-here, keys-none, keys-hit, keys-next, entries-start, entries-here, entries-none, entries-hit, entry-early, entry-apart}
 use Rattle.search.proofs.conflicts.Statement.{statement}
 use Rattle.search.proofs.conflicts.Tie as tie
-use Rattle.search.proofs.conflicts.Reads as reads
-use Rattle.search.proofs.conflicts.Lts as lts
-use Rattle.codec.proofs.numbers.read_eight.Reads as read-eight-reads
-use Rattle.places.proofs.skips.entry_past.Reads as entry-past-reads
-use Rattle.places.proofs.skips.key_past.Reads as key-past-reads
-use Rattle.places.proofs.cursor.Cursor.new.Reads as new-reads
-use Rattle.places.proofs.cursor.Cursor.of_list.Reads as of-list-reads
-use Rattle.places.proofs.cursor.Cursor.past.Reads as past-reads
-use Rattle.search.proofs.marks.Marks.is_over.Reads as is-over-reads
-use Rattle.search.proofs.marks.Marks.meets.Reads as meets-reads
-use Rattle.search.proofs.marks.Marks.next.Reads as next-reads
-use Rattle.search.proofs.marks.Marks.of.Reads as of-reads
 
 abbrev Inv-loop2 : tie.InvT-loop2
 Inv-loop2 room at entries txn start marks found₀ e k from to m₀ found m = (found ≡ false) × MarksWalk room txn (k .at) m
@@ -105,7 +94,9 @@ of-list-requires : tie.Need-of-list-requires Inv-loop2 μ-loop2 Inv-loop μ-loop
 of-list-requires c κs = entry-room (entry-at (c .before .before .before))
 
 loop-holds : tie.Need-loop-holds Inv-loop2 μ-loop2 Inv-loop μ-loop Inv-search μ-search
-loop-holds c = (c .before .before .before .before .before .before .search .inv .0, keys-start _ _ _ _ (c .of-list .ensures))
+loop-holds c =
+    let e = c .before .before .before .before in
+    (e .before .before .search .inv .0, keys-start _ _ _ _ (c .of-list .ensures))
 
 add-from : tie.Need-add-from Inv-loop2 μ-loop2 Inv-loop μ-loop Inv-search μ-search
 add-from c = let h = key-room _ _ (key-at (c .before)) in omega arith
@@ -159,7 +150,8 @@ past-requires c κs = c .before .before .before .before .before .if3 .taken
 loop-less : tie.Need-loop-less Inv-loop2 μ-loop2 Inv-loop μ-loop Inv-search μ-search
 loop-less c =
     let less = ap (λ (x : Cursor). x .left) (c .past .ensures) in
-    omega (arith, less, c .before .before .before .before .before .before .if3 .taken)
+    let l = c .before .before .before in
+    omega (arith, less, l .before .before .before .if3 .taken)
 
 loop-again : tie.Need-loop-again Inv-loop2 μ-loop2 Inv-loop μ-loop Inv-search μ-search
 loop-again c =

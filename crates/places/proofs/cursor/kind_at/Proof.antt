@@ -1,10 +1,9 @@
+-- A bound of a valid room has the tag of its kind, so two tests tell the kind.
 use borrow.Author.Tests.{eq-eqb, ne-eqb}
 use Rattle.places.proofs.MarkLaws.{kind-is, bound-room}
 use native.Mathlib.Omega.{arith}
 use Rattle.places.proofs.cursor.kind_at.Statement.{statement}
 use Rattle.places.proofs.cursor.kind_at.Tie as tie
-use Rattle.places.proofs.cursor.kind_at.Reads as reads
-use Rattle.places.proofs.cursor.kind_at.Lts as lts
 
 shared-slice-read-tag : tie.Need-shared-slice-read-tag
 shared-slice-read-tag c = bound-room _ _ (c .before .pre)

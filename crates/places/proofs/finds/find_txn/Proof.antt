@@ -12,12 +12,6 @@ use Rattle.places.proofs.SplitLaws.{Turn, turn, turn-here}
 use Rattle.places.proofs.SeekLaws.{Past, Seek, txn-inside, is-less, is-same, is-more, seek-start, seek-end, seek-before, seek-next, seek-found}
 use Rattle.places.proofs.finds.find_txn.Statement.{statement}
 use Rattle.places.proofs.finds.find_txn.Tie as tie
-use Rattle.places.proofs.finds.find_txn.Reads as reads
-use Rattle.places.proofs.finds.find_txn.Lts as lts
-use Rattle.keys.proofs.compare.Reads as compare-reads
-use Rattle.places.proofs.cursor.Cursor.new.Reads as new-reads
-use Rattle.places.proofs.cursor.Cursor.past.Reads as past-reads
-use Rattle.places.proofs.skips.txn_past.Reads as txn-past-reads
 
 abbrev Inv-loop : tie.InvT-loop
 Inv-loop room at n id c₀ c = Seek room at n id c
@@ -79,7 +73,8 @@ past-requires c κs = c .before .before .before .before .before .if1 .taken
 loop-less : tie.Need-loop-less Inv-loop μ-loop
 loop-less c =
     let less = ap (λ (x : Cursor). x .left) (c .past .ensures) in
-    omega (arith, less, c .before .before .before .before .before .before .if1 .taken)
+    let turned = c .before .before .before in
+    omega (arith, less, turned .before .before .before .if1 .taken)
 
 loop-again : tie.Need-loop-again Inv-loop μ-loop
 loop-again c =

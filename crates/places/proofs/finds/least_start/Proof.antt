@@ -13,13 +13,6 @@ use Rattle.places.proofs.SeekLaws.{txn-inside}
 use Rattle.places.proofs.LowLaws.{Lower, Low, low-start, low-next, low-end}
 use Rattle.places.proofs.finds.least_start.Statement.{statement}
 use Rattle.places.proofs.finds.least_start.Tie as tie
-use Rattle.places.proofs.finds.least_start.Reads as reads
-use Rattle.places.proofs.finds.least_start.Lts as lts
-use Rattle.codec.proofs.numbers.read_eight.Reads as read-eight-reads
-use Rattle.places.proofs.cursor.Cursor.new.Reads as new-reads
-use Rattle.places.proofs.cursor.Cursor.past.Reads as past-reads
-use Rattle.places.proofs.finds.lesser.Reads as lesser-reads
-use Rattle.places.proofs.skips.txn_past.Reads as txn-past-reads
 
 abbrev Inv-loop : tie.InvT-loop
 Inv-loop room at n most c₀ low₀ c low = Low room at n most c low

@@ -1,12 +1,10 @@
+-- A bound ends behind its tag, its length and its key.
 use native.Mathlib.Omega.{arith}
 use borrow.Author.Needs.{needs}
 use Rattle.layout.proofs.OpenLaws.{open-key, open-bound}
 use Rattle.places.proofs.EndLaws.{ends-at, bound-end}
 use Rattle.places.proofs.skips.bound_past.Statement.{statement}
 use Rattle.places.proofs.skips.bound_past.Tie as tie
-use Rattle.places.proofs.skips.bound_past.Reads as reads
-use Rattle.places.proofs.skips.bound_past.Lts as lts
-use Rattle.codec.proofs.numbers.read_two.Reads as read-two-reads
 
 add-result : tie.Need-add-result
 add-result c = search needs

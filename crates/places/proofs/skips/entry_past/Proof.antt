@@ -1,11 +1,9 @@
+-- An entry ends where its keys do.
 use Rattle.layout.proofs.OpenLaws.{open-entry}
 use Rattle.places.proofs.EndLaws.{here-of, ends-as}
 use borrow.Author.Needs.{needs}
 use Rattle.places.proofs.skips.entry_past.Statement.{statement}
 use Rattle.places.proofs.skips.entry_past.Tie as tie
-use Rattle.places.proofs.skips.entry_past.Reads as reads
-use Rattle.places.proofs.skips.entry_past.Lts as lts
-use Rattle.places.proofs.skips.set_past.Reads as set-past-reads
 
 add-set-past : tie.Need-add-set-past
 add-set-past c = search needs

@@ -1,12 +1,10 @@
+-- A key ends behind its length and its bytes.
 use native.Mathlib.Omega.{arith}
 use borrow.Author.Needs.{needs}
 use Rattle.layout.proofs.OpenLaws.{open-key}
 use Rattle.places.proofs.EndLaws.{ends-at, key-end}
 use Rattle.places.proofs.skips.key_past.Statement.{statement}
 use Rattle.places.proofs.skips.key_past.Tie as tie
-use Rattle.places.proofs.skips.key_past.Reads as reads
-use Rattle.places.proofs.skips.key_past.Lts as lts
-use Rattle.codec.proofs.numbers.read_two.Reads as read-two-reads
 
 add-result : tie.Need-add-result
 add-result c = search needs

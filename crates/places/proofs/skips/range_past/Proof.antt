@@ -1,10 +1,8 @@
+-- The end stands behind the start, and the range ends where the end does.
 use Rattle.layout.proofs.OpenLaws.{open-range}
 use Rattle.places.proofs.EndLaws.{here-of, ends-as, part-after}
 use Rattle.places.proofs.skips.range_past.Statement.{statement}
 use Rattle.places.proofs.skips.range_past.Tie as tie
-use Rattle.places.proofs.skips.range_past.Reads as reads
-use Rattle.places.proofs.skips.range_past.Lts as lts
-use Rattle.places.proofs.skips.bound_past.Reads as bound-past-reads
 
 bound-past-requires : tie.Need-bound-past-requires
 bound-past-requires c κs = here-of _ (open-range _ (c .before .pre .part) .start)

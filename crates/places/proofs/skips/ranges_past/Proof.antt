@@ -8,11 +8,6 @@ use Rattle.places.specs.declared.cursor.Cursor.{Cursor}
 use Rattle.places.proofs.EndLaws.{Walk, ranges-walk, walk-here, walk-next, walk-ends}
 use Rattle.places.proofs.skips.ranges_past.Statement.{statement}
 use Rattle.places.proofs.skips.ranges_past.Tie as tie
-use Rattle.places.proofs.skips.ranges_past.Reads as reads
-use Rattle.places.proofs.skips.ranges_past.Lts as lts
-use Rattle.places.proofs.cursor.Cursor.of_list.Reads as of-list-reads
-use Rattle.places.proofs.cursor.Cursor.past.Reads as past-reads
-use Rattle.places.proofs.skips.range_past.Reads as range-past-reads
 
 abbrev Inv-loop : tie.InvT-loop
 Inv-loop room at c₀ c = Walk (rangeForm (base .key)) (rangesForm (base .key)) room at c

@@ -8,11 +8,6 @@ use Rattle.places.specs.declared.cursor.Cursor.{Cursor}
 use Rattle.places.proofs.EndLaws.{Walk, set-walk, walk-here, walk-next, walk-ends}
 use Rattle.places.proofs.skips.set_past.Statement.{statement}
 use Rattle.places.proofs.skips.set_past.Tie as tie
-use Rattle.places.proofs.skips.set_past.Reads as reads
-use Rattle.places.proofs.skips.set_past.Lts as lts
-use Rattle.places.proofs.cursor.Cursor.of_list.Reads as of-list-reads
-use Rattle.places.proofs.cursor.Cursor.past.Reads as past-reads
-use Rattle.places.proofs.skips.key_past.Reads as key-past-reads
 
 abbrev Inv-loop : tie.InvT-loop
 Inv-loop room at c₀ c = Walk (keyForm (base .key)) (setForm (base .key)) room at c

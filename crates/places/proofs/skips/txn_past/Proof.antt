@@ -1,12 +1,10 @@
+-- Writes, reads and ranges follow each other, and the transaction ends where the ranges do.
 use Rattle.layout.proofs.OpenLaws.{open-txn}
 use Rattle.places.proofs.EndLaws.{here-of, ends-as, part-after}
 use borrow.Author.Needs.{needs}
 use Rattle.places.proofs.skips.txn_past.Statement.{statement}
 use Rattle.places.proofs.skips.txn_past.Tie as tie
 use Rattle.places.proofs.skips.txn_past.Reads as reads
-use Rattle.places.proofs.skips.txn_past.Lts as lts
-use Rattle.places.proofs.skips.ranges_past.Reads as ranges-past-reads
-use Rattle.places.proofs.skips.set_past.Reads as set-past-reads
 
 add-set-past : tie.Need-add-set-past
 add-set-past c = search needs

@@ -5,12 +5,6 @@ use Rattle.places.proofs.MarkLaws.{start-here, end-here, Spans, spans, 
 use borrow.Author.Needs.{needs}
 use Rattle.places.proofs.cursor.Cursor.holds.Statement.{statement}
 use Rattle.places.proofs.cursor.Cursor.holds.Tie as tie
-use Rattle.places.proofs.cursor.Cursor.holds.Reads as reads
-use Rattle.places.proofs.cursor.Cursor.holds.Lts as lts
-use Rattle.bounds.proofs.comparable_range.ComparableRange.contains.Reads as contains-reads
-use Rattle.bounds.proofs.comparable_range.ComparableRange.new.Reads as new-reads
-use Rattle.places.proofs.cursor.kind_at.Reads as kind-at-reads
-use Rattle.places.proofs.skips.bound_past.Reads as bound-past-reads
 
 abbrev known : tie.After-struct-known → tie.After-bound-past2
 known c = c .before .before .before .before

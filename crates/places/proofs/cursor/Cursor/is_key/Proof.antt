@@ -3,10 +3,6 @@ use Rattle.places.proofs.MarkLaws.{key-ends, is-key}
 use borrow.Author.Needs.{needs}
 use Rattle.places.proofs.cursor.Cursor.is_key.Statement.{statement}
 use Rattle.places.proofs.cursor.Cursor.is_key.Tie as tie
-use Rattle.places.proofs.cursor.Cursor.is_key.Reads as reads
-use Rattle.places.proofs.cursor.Cursor.is_key.Lts as lts
-use Rattle.keys.proofs.equal.Reads as equal-reads
-use Rattle.places.proofs.skips.key_past.Reads as key-past-reads
 
 add-from : tie.Need-add-from
 add-from c = search needs

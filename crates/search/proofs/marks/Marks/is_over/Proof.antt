@@ -1,3 +1,4 @@
+-- No mark is left where none of the three rows has one.
 use Prim.Native.Nat.{_+_}
 use mathlib.Core.Path.{_≡_, sym}
 use native.Mathlib.Omega.{arith}
@@ -6,7 +7,6 @@ use Rattle.search.specs.Search.{marksLeft}
 use Rattle.search.proofs.marks.Marks.is_over.Statement.{statement}
 use Rattle.search.proofs.marks.Marks.is_over.Tie as tie
 use Rattle.search.proofs.marks.Marks.is_over.Reads as reads
-use Rattle.search.proofs.marks.Marks.is_over.Lts as lts
 
 returns : tie.Need-returns
 returns c = sym (ne-eqb (marksLeft (c .before .before .args .self)) 0 (λ z. omega (arith, z, c .if1 .taken)))

@@ -1,11 +1,9 @@
+-- Writes, reads and ranges stand one behind the other, each a list behind its count.
 use borrow.Author.Needs.{needs}
 use Rattle.search.proofs.LeftLaws.{writes-here, reads-here, ranges-here, set-room, ranges-room, marks-at}
 use Rattle.search.proofs.marks.Marks.of.Statement.{statement}
 use Rattle.search.proofs.marks.Marks.of.Tie as tie
 use Rattle.search.proofs.marks.Marks.of.Reads as reads
-use Rattle.search.proofs.marks.Marks.of.Lts as lts
-use Rattle.places.proofs.skips.set_past.Reads as set-past-reads
-use Rattle.places.proofs.cursor.Cursor.of_list.Reads as of-list-reads
 
 add-at : tie.Need-add-at
 add-at c = search needs
