@@ -1,6 +1,6 @@
 -- Pairs of bounds: membership, emptiness, intersection and union, in document 01's words.
 use Prim.Native.Nat.{ℕ}
-use mathlib.Core.Bool.{Bool, true, false, cond, not, _&&_, _||_}
+use mathlib.Core.Bool.{Bool, true, false, cond, _&&_, _||_}
 use mathlib.Core.List.{List}
 use mathlib.Core.Ordering.{Ordering, then}
 use Rattle.keys.specs.Order.{order, isLess, isSame, notMore}

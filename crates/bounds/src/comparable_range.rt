@@ -1,8 +1,7 @@
 ghost use mathlib.Core.Path.{_≡_};
-ghost use lib.IntN.{ℤ};
 ghost use Rattle.keys.specs.Order.{sign};
 ghost use Rattle.kinds.specs.Bounds.{bound};
-ghost use Rattle.bounds.specs.Ranges.{range, rangeOf, everything, rangeOrder, holds, notEmpty, touchesPair, intersectOf, joinOf, unionOf};
+ghost use Rattle.bounds.specs.Ranges.{range, rangeOf, rangeOrder, holds, notEmpty, touchesPair, intersectOf, joinOf, unionOf};
 ghost use Rattle.bounds.specs.Sides.{sided, maxStart, minEnd};
 use crate::sides::Combined;
 use crate::sides::Side;

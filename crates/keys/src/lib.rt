@@ -1,6 +1,5 @@
 // Byte order. Every comparison of keys goes through `compare`.
 ghost use mathlib.Core.Path.{_≡_};
-ghost use lib.IntN.{ℤ};
 ghost use Rattle.keys.specs.Order.{order, sign, isSame, startsWith};
 
 // A stored key has at most this many bytes.

@@ -12,7 +12,7 @@ use mir.Val.{toZ, ofZ, SFits}
 use Rattle.keys.specs.Order.{order, sign}
 use Rattle.kinds.specs.declared.kind.Kind.{Kind}
 use Rattle.kinds.specs.declared.kind.Kind.the-variants.{Unbounded, Included, Excluded}
-use Rattle.kinds.specs.Bounds.{bound, isBounded, tie, tieOf, boundOrder}
+use Rattle.kinds.specs.Bounds.{bound, isBounded, tieOf, boundOrder}
 
 same-then : (o : Ordering) → then o eq ≡ o
 unfolding then

@@ -1,5 +1,4 @@
 ghost use mathlib.Core.Path.{_≡_};
-ghost use lib.IntN.{ℤ};
 ghost use Rattle.keys.specs.Order.{sign};
 ghost use Rattle.kinds.specs.Bounds.{bound, isBounded, tie, tieOf, startOrder, endOrder, boundOrder, startAdmits, endAdmits};
 

@@ -13,7 +13,7 @@ use Rattle.kinds.specs.Bounds.{Bound, unbounded, included, excluded}
 use Rattle.bounds.specs.Ranges.{Range}
 use Rattle.ranges.specs.Made.{keyOf}
 use Rattle.machine.specs.Lists.{All}
-use Rattle.machine.specs.State.{Bytes, Txn, Entry, Ceilings, fits, Above, Ascends, SetOk, RangeOk, TxnOk, EntryOk, txnMarks, entryMarks}
+use Rattle.machine.specs.State.{Bytes, Txn, Entry, Ceilings, Above, Ascends, SetOk, RangeOk, TxnOk, EntryOk, txnMarks, entryMarks}
 use Rattle.codec.specs.Codec.{RunOk}
 use Rattle.codec.specs.Formats.{number, raw, bind, only, via, run}
 use Rattle.layout.specs.Keys.{keyForm, listForm, setForm, below, anyOrder, boundForm, pairForm, rangeForm, rangesForm}

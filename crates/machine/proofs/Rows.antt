@@ -15,7 +15,7 @@ use Rattle.machine.specs.declared.Which.{Which}
 use Rattle.machine.specs.Lists.{isNil, keep, sum}
 use Rattle.machine.specs.State.{Bytes, Txn, Entry, State, Ceilings, newTxn, MachineState, marks, keyBytes, txnMarks, txnBytes, entryMarks, entryBytes, fits}
 use Rattle.machine.specs.Sets.{insertAll, find, without, anyActive}
-use Rattle.machine.specs.Calls.{Op, begin, trackKeys, trackRange, check, commit, batch, dropTxn, minimum, on, holding, full, done, reply, _>>=_, _>>_, need}
+use Rattle.machine.specs.Calls.{Op, begin, trackKeys, trackRange, check, commit, batch, dropTxn, minimum, on, holding, full, done, reply, _>>_, need}
 use Rattle.machine.specs.Serve.{entry, isId, isNew, shortRange, addKeys, addRange, withTxn, begun, entered, settle, track, answer, serve}
 use Rattle.machine.specs.Table.{passesTotal, trackPasses, statusOf}
 use Rattle.machine.proofs.ListLaws.{not-nil}

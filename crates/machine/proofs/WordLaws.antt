@@ -21,7 +21,6 @@ use Rattle.machine.specs.Serve.{isId, isNew, shortRange}
 use Rattle.machine.specs.Table.{isNone, isMalformed, longKeys, longBound, isLong, emptyRange, isEmptyRange, isAgain, isAbsent}
 use Rattle.machine.specs.Words.{Has, BadId, BadList, BadBounds, Malformed, LongKey, LongBound, Long, EmptyRange, Empty, IsActive, Again, NotActive, Absent}
 use Rattle.machine.proofs.ListLaws.{or-cases, or-left, or-right}
-use Rattle.machine.proofs.Rows.{rows}
 
 -- ---------------------------------------------------------------- tests and words
 

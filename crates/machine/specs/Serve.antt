@@ -1,7 +1,7 @@
 -- What each call answers. The statuses' order is the order of the lines: "First in this order wins: 7, 2, 4, 5, then 3 or
 -- 1, then 6."
 use Prim.Native.Nat.{ℕ, _-_, max}
-use mathlib.Core.Bool.{Bool, true, false, not, _&&_}
+use mathlib.Core.Bool.{Bool, true, false, _&&_}
 use mathlib.Core.List.{List, [], _∷_, _++_}
 use mathlib.Core.Option.{Option, none, some}
 use lib.Dec.{leb, eqb}
@@ -15,9 +15,6 @@ use Rattle.machine.specs.State.{Bytes, Txn, Entry, State, Ceilings, setO
 pub use Rattle.machine.specs.State.{newTxn}
 use Rattle.machine.specs.Sets.{insertAll, put, find, without, least, pruned, emptiedIfIdle, conflict}
 use Rattle.machine.specs.Calls.{Op, begin, trackKeys, trackRange, check, commit, batch, dropTxn, minimum, Call, fresh, on, Room, short, broken, holding, malformed, again, long, empty, full, Answer, done, absent, refused, Reply, replied, reply, _>>=_, _>>_, need, given}
-
-abbrev pub state : ℕ → List Txn → List Entry → State
-state n ts es = record { last = n; active = ts; entries = es }
 
 abbrev pub entry : ℕ → List Bytes → Entry
 entry n ks = record { seq = n; keys = ks }

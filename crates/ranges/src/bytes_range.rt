@@ -3,7 +3,7 @@ ghost use Prim.Native.Nat.{_≤_, _<_, _-_};
 ghost use lib.ListN.{length, getD};
 ghost use Rattle.keys.specs.Limit.{keyLimit};
 ghost use Rattle.kinds.specs.Bounds.{Bound, bound, unbounded};
-ghost use Rattle.bounds.specs.Ranges.{range, rangeOf, everything, holds, isPoint};
+ghost use Rattle.bounds.specs.Ranges.{range, rangeOf, holds, isPoint};
 ghost use Rattle.ranges.specs.Prefixes.{increment, Raises, endAt, prefixRange, subrangeOf, subStart, subEnd};
 ghost use Rattle.ranges.specs.Made.{Sized, tooLong, made, madeBound};
 ghost use Rattle.ranges.specs.Making.{newOf, madeIncrement, madeRange, madeAs};

@@ -1,5 +1,4 @@
 // A fresh room, a transaction's begin, and the calls that only look: check and minimum.
-ghost use mathlib.Core.Path.{_≡_};
 ghost use Rattle.machine.specs.Calls.{fresh, on, begin, check, minimum};
 ghost use Rattle.layout.specs.Rooms.{Served};
 ghost use Rattle.room.specs.Views.{Seen};

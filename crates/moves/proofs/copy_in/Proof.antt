@@ -1,3 +1,4 @@
+-- The first i bytes of the source stand at the place; all others are as they were.
 use Prim.Native.Nat.{_-_}
 use native.Mathlib.Omega.{arith}
 use borrow.Author.Needs.{needs}

@@ -1,3 +1,4 @@
+-- The first i bytes stand at their new place; those that are still to move have not been written over, since the place lies before them.
 use Prim.Native.Nat.{_-_}
 use native.Mathlib.Omega.{arith}
 use borrow.Author.Needs.{needs}

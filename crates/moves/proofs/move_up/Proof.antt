@@ -1,3 +1,4 @@
+-- All but the first `left` bytes stand at their new place; those have not been written over, since the place lies behind them.
 use native.Mathlib.Omega.{arith}
 use borrow.Author.Needs.{needs}
 use Rattle.moves.proofs.MoveLaws.{Up, up-start, up-next, up-end}

@@ -1,3 +1,4 @@
+-- Up or down by where the place lies, and nothing at all where it is the same.
 use native.Mathlib.Omega.{arith}
 use Rattle.moves.proofs.MoveLaws.{stays}
 use borrow.Author.Needs.{needs}

@@ -1,3 +1,4 @@
+-- The tail is shifted to where it will stand, and the source copied into the gap.
 use native.Mathlib.Omega.{arith}
 use Rattle.moves.proofs.SpliceLaws.{spliced}
 use borrow.Author.Needs.{needs}

@@ -1,3 +1,4 @@
+-- The loop keeps nothing but its place, which grows or ends the replay.
 use Prim.Native.Nat.{_-_}
 use native.Mathlib.Omega.{arith}
 use lib.ListN.{length}

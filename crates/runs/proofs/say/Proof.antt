@@ -1,3 +1,4 @@
+-- The line of an answer fits its place.
 use native.Mathlib.Omega.{arith}
 use Rattle.script.proofs.LineLaws.{answer-short}
 use borrow.Author.Needs.{needs}

@@ -1,3 +1,4 @@
+-- The next place lies behind this one, or is the same where nothing reads.
 use native.Mathlib.Omega.{arith}
 use borrow.Author.Needs.{needs}
 use denote.Ref.{now}

@@ -1,3 +1,4 @@
+-- The place of the next key lies within the list, whose length does not change.
 use Prim.Native.Nat.{_≤_, _-_}
 use mathlib.Core.Path.{_≡_}
 use native.Mathlib.Omega.{arith}

@@ -3,7 +3,6 @@ use Rattle.answers.proofs.SeenLaws.{seen-nothing}
 use borrow.Author.Needs.{needs}
 use Rattle.manager.proofs.transaction_manager.track_read_keys.Statement.{statement}
 use Rattle.manager.proofs.transaction_manager.track_read_keys.Tie as tie
-use Rattle.manager.proofs.transaction_manager.track_read_keys.Reads as reads
 
 open-requires : tie.Need-open-requires
 open-requires c κs = search needs

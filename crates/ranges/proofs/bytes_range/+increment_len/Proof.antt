@@ -30,28 +30,24 @@ increment-len-below t =
     (falls 1 increment-len-kinds.ps _<_ μ-increment-len t)
     increment-len.Pre
 
--- src/bytes_range.rt:182:9
 increment-len-returns : (t : ℕ) → increment-len-lts.Need-returns (
   increment-len-below t,
   increment-len.Post,
 ) (increment-len-at t) increment-len.Post
 increment-len-returns t c = raises-none _ (c .if1 .taken)
 
--- src/bytes_range.rt:184:16
 increment-len-sub-last : (t : ℕ) → increment-len-lts.Need-sub-last (
   increment-len-below t,
   increment-len.Post,
 ) (increment-len-at t) increment-len.Post
 increment-len-sub-last t c = omega arith
 
--- src/bytes_range.rt:185:8
 increment-len-shared-slice-read-if2 : (t : ℕ) → increment-len-lts.Need-shared-slice-read-if2 (
   increment-len-below t,
   increment-len.Post,
 ) (increment-len-at t) increment-len.Post
 increment-len-shared-slice-read-if2 t c = omega arith
 
--- src/bytes_range.rt:186:30
 increment-len-slice-aggregate-increment-len :
     (t : ℕ) → increment-len-lts.Need-slice-aggregate-increment-len (
       increment-len-below t,
@@ -61,7 +57,6 @@ increment-len-slice-aggregate-increment-len t c =
     let p = c .before .before .before .before .before .args .prefix .now in
     sym (length-take-le (length p - 1) p (omega arith))
 
--- src/bytes_range.rt:186:9
 increment-len-increment-len-requires : (t : ℕ) → increment-len-lts.Need-increment-len-requires (
   increment-len-below t,
   increment-len.Post,
@@ -71,14 +66,12 @@ increment-len-increment-len-requires t c κs =
     let l = length-take-le (length p - 1) p (omega arith) in
     omega (arith, c .before .before .before .before .before .pre)
 
--- src/bytes_range.rt:186:9
 increment-len-returns-2 : (t : ℕ) → increment-len-lts.Need-returns-2 (
   increment-len-below t,
   increment-len.Post,
 ) (increment-len-at t) increment-len.Post
 increment-len-returns-2 t c = raises-shorter _ (omega arith) (c .before .before .if2 .taken) (c .increment-len .ensures)
 
--- src/bytes_range.rt:178:1
 increment-len-returns-3 : (t : ℕ) → increment-len-lts.Need-returns-3 (
   increment-len-below t,
   increment-len.Post,

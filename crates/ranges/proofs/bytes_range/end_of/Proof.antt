@@ -7,31 +7,21 @@ use Rattle.ranges.specs.Made.{madeBound}
 use Rattle.ranges.proofs.SubrangeMaking.{end-bounded, end-open}
 use Rattle.ranges.proofs.bytes_range.end_of.Statement.{statement}
 use Rattle.ranges.proofs.bytes_range.end_of.Tie as tie
-use Rattle.ranges.proofs.bytes_range.end_of.Reads as reads
-use Rattle.ranges.proofs.bytes_range.end_of.Lts as lts
-use Rattle.kinds.proofs.kind.Kind.bounded.Reads as bounded-reads
-use Rattle.ranges.proofs.bytes_range.increment.Reads as increment-reads
-use Rattle.ranges.proofs.made.joined.Reads as joined-reads
 
--- src/bytes_range.rt:165:8
 bounded-requires : tie.Need-bounded-requires
 bounded-requires c κs = search needs
 
--- src/bytes_range.rt:166:9
 joined-requires : tie.Need-joined-requires
 joined-requires c κs = search needs
 
--- src/bytes_range.rt:166:9
 returns : tie.Need-returns
 returns c =
     let x = c .before .before .before .before .before .args in
     c .joined .ensures ∙ ap madeBound (end-bounded (now (x .prefix)) (now (x .suffix)) (x .end) (sym (c .before .before .bounded .ensures) ∙ c .before .if1 .taken))
 
--- src/bytes_range.rt:168:5
 increment-requires : tie.Need-increment-requires
 increment-requires c κs = search needs
 
--- src/bytes_range.rt:161:1
 returns-2 : tie.Need-returns-2
 returns-2 c =
     let x = c .before .before .before .before .before .args in

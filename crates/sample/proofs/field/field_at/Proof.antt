@@ -6,9 +6,6 @@ use Rattle.fields.specs.declared.FieldAt.{FieldAt}
 use Rattle.fields.specs.Forms.{FieldIs}
 use Rattle.sample.proofs.field.field_at.Statement.{statement}
 use Rattle.sample.proofs.field.field_at.Tie as tie
-use Rattle.sample.proofs.field.field_at.Reads as reads
-use Rattle.sample.proofs.field.field_at.Lts as lts
-use Rattle.fields.proofs.field_at.Reads as field-at-reads
 
 -- the field that was read
 seen : (c : tie.After-tag) → FieldIs (now (c .before .before .before .before .args .queries)) (c .before .before .before .before .args .at) (FieldAt.At (c .tag .given .0 .0) (c .tag .given .0 .1 .0) (c .tag .given .0 .1 .1 .0))

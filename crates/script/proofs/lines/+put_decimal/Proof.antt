@@ -1,3 +1,4 @@
+-- The digits above are put first, then the last one: together they are the decimal of the number.
 use borrow.Author.Needs.{needs}
 use native.Mathlib.Omega.{arith}
 use Rattle.script.proofs.LineLaws.{put-low, put-high, room-low, room-high}
@@ -23,7 +24,6 @@ abbrev put-decimal-below : ℕ → In 1 put-decimal-kinds.ps
 put-decimal-below t =
     and 1 put-decimal-kinds.ps (falls 1 put-decimal-kinds.ps _<_ μ-put-decimal t) put-decimal.Pre
 
--- src/lib.rt:33:34
 put-decimal-digit-requires : (t : ℕ) → put-decimal-lts.Need-digit-requires (
   digit-reads.Asked,
   digit-reads.Learnt,
@@ -34,7 +34,6 @@ put-decimal-digit-requires : (t : ℕ) → put-decimal-lts.Need-digit-requires (
 ) (put-decimal-at t) put-decimal.Post
 put-decimal-digit-requires t c κs = tt
 
--- src/lib.rt:33:9
 put-decimal-put-byte-requires : (t : ℕ) → put-decimal-lts.Need-put-byte-requires (
   digit-reads.Asked,
   digit-reads.Learnt,
@@ -45,7 +44,6 @@ put-decimal-put-byte-requires : (t : ℕ) → put-decimal-lts.Need-put-byte-requ
 ) (put-decimal-at t) put-decimal.Post
 put-decimal-put-byte-requires t c κs = room-low (c .before .before .before .before .args .n) _ _ (omega arith) (c .before .before .before .before .pre .1)
 
--- src/lib.rt:33:9
 put-decimal-same-length : (t : ℕ) → put-decimal-lts.Need-same-length (
   digit-reads.Asked,
   digit-reads.Learnt,
@@ -56,7 +54,6 @@ put-decimal-same-length : (t : ℕ) → put-decimal-lts.Need-same-length (
 ) (put-decimal-at t) put-decimal.Post
 put-decimal-same-length t c = search needs
 
--- src/lib.rt:33:9
 put-decimal-returns : (t : ℕ) → put-decimal-lts.Need-returns (
   digit-reads.Asked,
   digit-reads.Learnt,
@@ -67,7 +64,6 @@ put-decimal-returns : (t : ℕ) → put-decimal-lts.Need-returns (
 ) (put-decimal-at t) put-decimal.Post
 put-decimal-returns t c = put-low (omega arith) (c .before .before .before .digit .ensures) (c .before .before .put-byte .ensures)
 
--- src/lib.rt:35:9
 put-decimal-put-decimal-requires : (t : ℕ) → put-decimal-lts.Need-put-decimal-requires (
   digit-reads.Asked,
   digit-reads.Learnt,
@@ -80,7 +76,6 @@ put-decimal-put-decimal-requires t c κs =
     let x = room-high (c .before .before .before .args .n) (c .before .before .before .args .at) _ (omega arith) (c .before .before .before .pre .1) in
     (omega (arith, c .before .before .before .pre .0), omega (arith, x))
 
--- src/lib.rt:36:25
 put-decimal-digit-requires-2 : (t : ℕ) → put-decimal-lts.Need-digit-requires-2 (
   digit-reads.Asked,
   digit-reads.Learnt,
@@ -91,7 +86,6 @@ put-decimal-digit-requires-2 : (t : ℕ) → put-decimal-lts.Need-digit-requires
 ) (put-decimal-at t) put-decimal.Post
 put-decimal-digit-requires-2 t c κs = tt
 
--- src/lib.rt:36:5
 put-decimal-put-byte-requires-2 : (t : ℕ) → put-decimal-lts.Need-put-byte-requires-2 (
   digit-reads.Asked,
   digit-reads.Learnt,
@@ -104,7 +98,6 @@ put-decimal-put-byte-requires-2 t c κs =
     let x = room-high (c .before .before .before .before .before .before .before .before .args .n) (c .before .before .before .before .before .before .before .before .args .at) _ (omega arith) (c .before .before .before .before .before .before .before .before .pre .1) in
     omega (arith, x, c .before .before .before .before .put-decimal .ensures .ends)
 
--- src/lib.rt:28:1
 put-decimal-same-length-2 : (t : ℕ) → put-decimal-lts.Need-same-length-2 (
   digit-reads.Asked,
   digit-reads.Learnt,
@@ -115,7 +108,6 @@ put-decimal-same-length-2 : (t : ℕ) → put-decimal-lts.Need-same-length-2 (
 ) (put-decimal-at t) put-decimal.Post
 put-decimal-same-length-2 t c = search needs
 
--- src/lib.rt:28:1
 put-decimal-returns-2 : (t : ℕ) → put-decimal-lts.Need-returns-2 (
   digit-reads.Asked,
   digit-reads.Learnt,

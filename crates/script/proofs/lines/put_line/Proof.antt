@@ -1,34 +1,25 @@
+-- Status, space, value and the line's end are put one behind the other.
 use native.Mathlib.Omega.{arith}
 use Rattle.script.proofs.LineLaws.{byte-short, word-short, put-answer}
 use borrow.Author.Needs.{needs}
 use Rattle.script.proofs.lines.put_line.Statement.{statement}
 use Rattle.script.proofs.lines.put_line.Tie as tie
-use Rattle.script.proofs.lines.put_line.Reads as reads
-use Rattle.script.proofs.lines.put_line.Lts as lts
-use Rattle.script.proofs.lines.put_byte.Reads as put-byte-reads
-use Rattle.script.proofs.lines.put_decimal.Reads as put-decimal-reads
 
--- src/lib.rt:44:9
 put-decimal-requires : tie.Need-put-decimal-requires
 put-decimal-requires c κs = omega (arith, c .before .before .pre, byte-short (c .before .before .args .status) (omega (arith, c .before .before .fits .status)))
 
--- src/lib.rt:45:9
 put-byte-requires : tie.Need-put-byte-requires
 put-byte-requires c κs = omega (arith, c .before .before .before .before .before .before .pre, c .before .before .before .put-decimal .ensures .ends, byte-short (c .before .before .before .before .before .before .args .status) (omega (arith, c .before .before .before .before .before .before .fits .status)))
 
--- src/lib.rt:46:9
 put-decimal-requires-2 : tie.Need-put-decimal-requires-2
 put-decimal-requires-2 c κs = omega (arith, c .before .before .before .before .before .before .before .before .before .before .pre, c .before .before .before .before .before .before .before .put-decimal .ensures .ends, c .before .before .before .put-byte .ensures .ends, byte-short (c .before .before .before .before .before .before .before .before .before .before .args .status) (omega (arith, c .before .before .before .before .before .before .before .before .before .before .fits .status)), word-short (c .before .before .before .before .before .before .before .before .before .before .args .value) (omega (arith, c .before .before .before .before .before .before .before .before .before .before .fits .value)))
 
--- src/lib.rt:47:5
 put-byte-requires-2 : tie.Need-put-byte-requires-2
 put-byte-requires-2 c κs = omega (arith, c .before .before .before .before .before .before .before .before .before .before .before .before .before .before .pre, c .before .before .before .before .before .before .before .before .before .before .before .put-decimal .ensures .ends, c .before .before .before .before .before .before .before .put-byte .ensures .ends, c .before .before .before .put-decimal2 .ensures .ends, byte-short (c .before .before .before .before .before .before .before .before .before .before .before .before .before .before .args .status) (omega (arith, c .before .before .before .before .before .before .before .before .before .before .before .before .before .before .fits .status)), word-short (c .before .before .before .before .before .before .before .before .before .before .before .before .before .before .args .value) (omega (arith, c .before .before .before .before .before .before .before .before .before .before .before .before .before .before .fits .value)))
 
--- src/lib.rt:40:1
 same-length : tie.Need-same-length
 same-length c = search needs
 
--- src/lib.rt:40:1
 returns : tie.Need-returns
 returns c = put-answer (c .before .before .before .before .before .before .before .before .before .before .before .before .before .before .before .before .before .pre) (omega (arith, c .before .before .before .before .before .before .before .before .before .before .before .before .before .before .before .before .before .fits .status)) (omega (arith, c .before .before .before .before .before .before .before .before .before .before .before .before .before .before .before .before .before .fits .value)) (c .before .before .before .before .before .before .before .before .before .before .before .before .before .before .put-decimal .ensures) (c .before .before .before .before .before .before .before .before .before .before .put-byte .ensures) (c .before .before .before .before .before .before .put-decimal2 .ensures) (c .before .before .put-byte2 .ensures)
 

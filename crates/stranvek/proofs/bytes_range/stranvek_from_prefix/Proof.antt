@@ -4,7 +4,6 @@ use mathlib.Core.Path.{ap, _∙_}
 use Rattle.stranvek.specs.Boundary.{madeKeys}
 use Rattle.stranvek.proofs.bytes_range.stranvek_from_prefix.Statement.{statement}
 use Rattle.stranvek.proofs.bytes_range.stranvek_from_prefix.Tie as tie
-use Rattle.stranvek.proofs.bytes_range.stranvek_from_prefix.Reads as reads
 
 from-prefix-requires : tie.Need-from-prefix-requires
 from-prefix-requires c κs = search needs

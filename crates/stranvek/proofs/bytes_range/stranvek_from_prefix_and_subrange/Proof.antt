@@ -8,7 +8,6 @@ use Rattle.ranges.specs.Making.{madeRange}
 use Rattle.stranvek.specs.Boundary.{madeKeys}
 use Rattle.stranvek.proofs.bytes_range.stranvek_from_prefix_and_subrange.Statement.{statement}
 use Rattle.stranvek.proofs.bytes_range.stranvek_from_prefix_and_subrange.Tie as tie
-use Rattle.stranvek.proofs.bytes_range.stranvek_from_prefix_and_subrange.Reads as reads
 
 abbrev start : tie.After-range-at → tie.Start
 start c = c .before .before .before .before

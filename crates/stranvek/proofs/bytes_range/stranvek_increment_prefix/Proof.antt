@@ -5,7 +5,6 @@ use Rattle.ranges.specs.Made.{status}
 use Rattle.stranvek.specs.Boundary.{key}
 use Rattle.stranvek.proofs.bytes_range.stranvek_increment_prefix.Statement.{statement}
 use Rattle.stranvek.proofs.bytes_range.stranvek_increment_prefix.Tie as tie
-use Rattle.stranvek.proofs.bytes_range.stranvek_increment_prefix.Reads as reads
 
 increment-prefix-requires : tie.Need-increment-prefix-requires
 increment-prefix-requires c κs = search needs

@@ -6,23 +6,16 @@ use Rattle.ranges.specs.Making.{madeRange}
 use Rattle.ranges.proofs.PrefixLaws.{prefix-is-subrange}
 use Rattle.ranges.proofs.bytes_range.BytesRange.from_prefix.Statement.{statement}
 use Rattle.ranges.proofs.bytes_range.BytesRange.from_prefix.Tie as tie
-use Rattle.ranges.proofs.bytes_range.BytesRange.from_prefix.Reads as reads
-use Rattle.ranges.proofs.bytes_range.BytesRange.from_prefix.Lts as lts
-use Rattle.ranges.proofs.bytes_range.BytesRange.from_prefix_and_subrange.Reads as from-prefix-and-subrange-reads
 
--- src/bytes_range.rt:261:13
 slice-aggregate-from-prefix-and-subrange : tie.Need-slice-aggregate-from-prefix-and-subrange
 slice-aggregate-from-prefix-and-subrange c = search needs
 
--- src/bytes_range.rt:262:13
 slice-aggregate-from-prefix-and-subrange-2 : tie.Need-slice-aggregate-from-prefix-and-subrange-2
 slice-aggregate-from-prefix-and-subrange-2 c = search needs
 
--- src/bytes_range.rt:258:9
 from-prefix-and-subrange-requires : tie.Need-from-prefix-and-subrange-requires
 from-prefix-and-subrange-requires c κs = search needs
 
--- src/bytes_range.rt:255:5
 returns : tie.Need-returns
 returns c =
     c .from-prefix-and-subrange .ensures ∙ ap madeRange (sym (prefix-is-subrange (now (c .before .before .before .before .args .prefix))))

@@ -1,6 +1,6 @@
 -- A prefix over the limit makes a start over the limit; otherwise the range lies between the two made bounds.
 use borrow.Author.Needs.{needs}
-use mathlib.Core.Path.{sym, ap, _∙_}
+use mathlib.Core.Path.{_∙_}
 use native.Mathlib.Omega.{arith}
 use denote.Ref.{now}
 use Rattle.kinds.specs.Bounds.{bound}
@@ -10,42 +10,30 @@ use Rattle.ranges.proofs.bytes_range.BytesRange.from_prefix_and_subrang
   statement,
 }
 use Rattle.ranges.proofs.bytes_range.BytesRange.from_prefix_and_subrange.Tie as tie
-use Rattle.ranges.proofs.bytes_range.BytesRange.from_prefix_and_subrange.Reads as reads
-use Rattle.ranges.proofs.bytes_range.BytesRange.from_prefix_and_subrange.Lts as lts
-use Rattle.ranges.proofs.bytes_range.MadeRange.between.Reads as between-reads
-use Rattle.ranges.proofs.bytes_range.MadeRange.refused.Reads as refused-reads
-use Rattle.ranges.proofs.bytes_range.end_of.Reads as end-of-reads
-use Rattle.ranges.proofs.bytes_range.start_of.Reads as start-of-reads
 
--- src/bytes_range.rt:276:13
 abbrev start : tie.After-start-of → tie.Start
 start c = c .before .before .before .before .before
 
 refused-requires : tie.Need-refused-requires
 refused-requires c κs = search needs
 
--- src/bytes_range.rt:276:13
 returns : tie.Need-returns
 returns c =
     let x = c .before .before .before .before .before .args in
     c .refused .ensures
     ∙ long-start (subStart (now (x .prefix)) (bound (x .subrange .start) (now (x .start-suffix)))) (subEnd (now (x .prefix)) (bound (x .subrange .end) (now (x .end-suffix)))) (long-prefix (now (x .prefix)) (bound (x .subrange .start) (now (x .start-suffix))) (omega arith))
 
--- src/bytes_range.rt:280:13
 start-of-requires : tie.Need-start-of-requires
 start-of-requires c κs = search needs
 
--- src/bytes_range.rt:281:13
 end-of-requires : tie.Need-end-of-requires
 end-of-requires c κs = search needs
 
--- src/bytes_range.rt:282:9
 between-requires : tie.Need-between-requires
 between-requires c κs =
     let x = start (c .before) .args in
     (sized (subStart (now (x .prefix)) (bound (x .subrange .start) (now (x .start-suffix)))) (c .before .start-of .ensures), sized (subEnd (now (x .prefix)) (bound (x .subrange .end) (now (x .end-suffix)))) (c .end-of .ensures))
 
--- src/bytes_range.rt:267:5
 returns-2 : tie.Need-returns-2
 returns-2 c =
     let x = start (c .before .before) .args in

@@ -3,24 +3,16 @@ use borrow.Author.Needs.{needs}
 use borrow.Author.Tests.{lt-ltb, le-ltb}
 use Rattle.ranges.proofs.bytes_range.BytesRange.increment_prefix.Statement.{statement}
 use Rattle.ranges.proofs.bytes_range.BytesRange.increment_prefix.Tie as tie
-use Rattle.ranges.proofs.bytes_range.BytesRange.increment_prefix.Reads as reads
-use Rattle.ranges.proofs.bytes_range.BytesRange.increment_prefix.Lts as lts
-use Rattle.ranges.proofs.made.Made.nothing.Reads as nothing-reads
-use Rattle.ranges.proofs.bytes_range.increment.Reads as increment-reads
 
--- src/bytes_range.rt:290:13
 nothing-requires : tie.Need-nothing-requires
 nothing-requires c κs = search needs
 
--- src/bytes_range.rt:290:13
 returns : tie.Need-returns
 returns c = rw (lt-ltb _ _ (c .before .if1 .taken)) (c .nothing .ensures)
 
--- src/bytes_range.rt:292:9
 increment-requires : tie.Need-increment-requires
 increment-requires c κs = search needs
 
--- src/bytes_range.rt:286:5
 returns-2 : tie.Need-returns-2
 returns-2 c = rw (le-ltb _ _ (c .before .if1 .left)) (c .increment .ensures)
 
