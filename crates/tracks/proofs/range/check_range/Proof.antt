@@ -12,6 +12,10 @@ use borrow.Author.Needs.{needs}
 use Rattle.tracks.proofs.range.check_range.Statement.{statement}
 use Rattle.tracks.proofs.range.check_range.Tie as tie
 
+-- from a named place back to the one before it, and to the start
+abbrev before-else2 : tie.Else2 → tie.After-p
+before-else2 c = c .before .before .before
+
 -- the two bounds that were read, in bytes, with keys within the limit
 seen : (c : tie.After-p) → BoundsAt (now (c .before .before .before .before .args .bounds)) (c .p .given .0 .0)
 seen c = rw (c .p .given .1) at (c .before .before .read-bounds .ensures)
@@ -65,13 +69,13 @@ add-t25 : tie.Need-add-t25
 add-t25 c = omega (arith, short (c .before .before .before .before .before))
 
 returns-2 : tie.Need-returns-2
-returns-2 c = judged-good (seen (c .before .before .before .before .before .before .before .before)) (small (c .before .before .before .before .before .before .before .before)) _ (c .before .before .before .before .new .ensures) (short (c .before .before .before .before .before) .0) (short (c .before .before .before .before .before) .1) (sym (c .before .non-empty .ensures) ∙ c .if3 .taken)
+returns-2 c = judged-good (seen (before-else2 (c .before .before .before .before .before))) (small (before-else2 (c .before .before .before .before .before))) _ (c .before .before .before .before .new .ensures) (short (c .before .before .before .before .before) .0) (short (c .before .before .before .before .before) .1) (sym (c .before .non-empty .ensures) ∙ c .if3 .taken)
 
 enum-told : tie.Need-enum-told
 enum-told c = search needs
 
 returns-3 : tie.Need-returns-3
-returns-3 c = judged-empty (seen (c .before .before .before .before .before .before .before .before)) (small (c .before .before .before .before .before .before .before .before)) _ (c .before .before .before .before .new .ensures) (short (c .before .before .before .before .before) .0) (short (c .before .before .before .before .before) .1) (sym (c .before .non-empty .ensures) ∙ c .if3 .left)
+returns-3 c = judged-empty (seen (before-else2 (c .before .before .before .before .before))) (small (before-else2 (c .before .before .before .before .before))) _ (c .before .before .before .before .new .ensures) (short (c .before .before .before .before .before) .0) (short (c .before .before .before .before .before) .1) (sym (c .before .non-empty .ensures) ∙ c .if3 .left)
 
 returns-4 : tie.Need-returns-4
 returns-4 c = judged-malformed (rw (c .enum-told .given .1) at (c .before .before .read-bounds .ensures))

@@ -18,6 +18,28 @@ use borrow.Author.Needs.{needs}
 use Rattle.tracks.proofs.range.track_range.Statement.{statement}
 use Rattle.tracks.proofs.range.track_range.Tie as tie
 
+-- from a named place back to the one before it, and to the start
+abbrev start-else1 : tie.Else1 → tie.Start
+start-else1 c = c .before .before .before .before
+
+abbrev before-size : tie.After-size → tie.Else1
+before-size c = c .before .before .before
+
+abbrev start-size : tie.After-size → tie.Start
+start-size c = start-else1 (c .before .before .before)
+
+abbrev before-at : tie.After-at → tie.After-size
+before-at c = c .before .before .before .before .before
+
+abbrev start-at : tie.After-at → tie.Start
+start-at c = start-size (c .before .before .before .before .before)
+
+abbrev before-else2 : tie.Else2 → tie.After-at
+before-else2 c = c .before .before
+
+abbrev start-else2 : tie.Else2 → tie.Start
+start-else2 c = start-at (c .before .before)
+
 -- what is known of the arguments, and of the transaction once it is found
 is-id : (c : tie.Else1) → length (now (c .before .before .before .before .args .id)) ≡ 16
 is-id c = omega arith
@@ -25,10 +47,10 @@ is-id c = omega arith
 small : (c : tie.Else1) (i : ℕ) → getD (now (c .before .before .before .before .args .bounds)) i 0 < 256
 small c i = omega (arith, c .before .shared-slice-known2 .given i)
 
-good : (c : tie.After-size) → Judged.Good (c .size .given .0 .0) ≡ judged (boundsOf (now (c .before .before .before .before .before .before .before .args .bounds)))
+good : (c : tie.After-size) → Judged.Good (c .size .given .0 .0) ≡ judged (boundsOf (now (start-size c .args .bounds)))
 good c = sym (c .size .given .1) ∙ c .before .before .check-range .ensures
 
-found : (c : tie.After-at) → Found (now (c .before .before .before .before .before .before .before .before .before .before .before .before .args .room)) (c .before .before .before .before .before .before .before .before .before .before .before .before .args .v .middle) (c .before .before .before .before .before .before .before .before .before .before .before .before .args .v .active) (now (c .before .before .before .before .before .before .before .before .before .before .before .before .args .id)) (Place.Here (c .at .given .0 .0) (c .at .given .0 .1 .0))
+found : (c : tie.After-at) → Found (now (start-at c .args .room)) (start-at c .args .v .middle) (start-at c .args .v .active) (now (start-at c .args .id)) (Place.Here (c .at .given .0 .0) (c .at .given .0 .1 .0))
 found c = rw (c .at .given .1) at (c .before .before .find-txn .ensures)
 
 returns : tie.Need-returns
@@ -41,28 +63,28 @@ enum-known-size : tie.Need-enum-known-size
 enum-known-size c = search needs
 
 find-txn-requires : tie.Need-find-txn-requires
-find-txn-requires c κs = active-rows (c .before .before .before .before .before .before .before .before .before .pre)
+find-txn-requires c κs = active-rows (start-size (c .before .before) .pre)
 
 enum-known-at : tie.Need-enum-known-at
 enum-known-at c = search needs
 
 sub-if3 : tie.Need-sub-if3
-sub-if3 c = within (c .before .before .before .before .before .before .before .before .before .before .before .before .before .before .pre) .1
+sub-if3 c = within (start-else2 c .pre) .1
 
 same-length : tie.Need-same-length
 same-length c = search needs
 
 returns-2 : tie.Need-returns-2
-returns-2 c = range-full (c .before .before .before .before .before .before .before .before .before .before .before .before .before .before .pre) (now (c .before .before .before .before .before .before .before .before .before .before .before .before .before .before .args .id)) (now (c .before .before .before .before .before .before .before .before .before .before .before .before .before .before .args .bounds)) (is-id (c .before .before .before .before .before .before .before .before .before .before)) (good (c .before .before .before .before .before .before .before)) (found (c .before .before)) (⊎-map (λ z. omega (arith, z .taken)) (λ z. ltb-true _ _ (z .1 .taken)) (c .if2 .came))
+returns-2 c = range-full (start-at (c .before .before) .pre) (now (start-at (c .before .before) .args .id)) (now (start-at (c .before .before) .args .bounds)) (is-id (before-size (before-at (c .before .before)))) (good (before-at (c .before .before))) (found (c .before .before)) (⊎-map (λ z. omega (arith, z .taken)) (λ z. ltb-true _ _ (z .1 .taken)) (c .if2 .came))
 
 append-range-requires : tie.Need-append-range-requires
-append-range-requires c κs = appendable (c .before .before .before .before .before .before .before .before .before .before .before .before .before .before .before .before .pre) (now (c .before .before .before .before .before .before .before .before .before .before .before .before .before .before .before .before .args .id)) (now (c .before .before .before .before .before .before .before .before .before .before .before .before .before .before .before .before .args .bounds)) (is-id (c .before .before .before .before .before .before .before .before .before .before .before .before)) (good (c .before .before .before .before .before .before .before .before .before)) (found (c .before .before .before .before)) (small (c .before .before .before .before .before .before .before .before .before .before .before .before)) (omega (arith, c .before .before .if2 .left)) (ltb-false _ _ (c .before .if3 .left))
+append-range-requires c κs = appendable (start-else2 (c .before .before) .pre) (now (start-else2 (c .before .before) .args .id)) (now (start-else2 (c .before .before) .args .bounds)) (is-id (before-size (before-at (before-else2 (c .before .before))))) (good (before-at (before-else2 (c .before .before)))) (found (c .before .before .before .before)) (small (before-size (before-at (before-else2 (c .before .before))))) (omega (arith, c .before .before .if2 .left)) (ltb-false _ _ (c .before .if3 .left))
 
 same-length-2 : tie.Need-same-length-2
 same-length-2 c = search needs
 
 returns-3 : tie.Need-returns-3
-returns-3 c = range-done (c .before .before .before .before .before .before .before .before .before .before .before .before .before .before .before .before .before .before .before .pre) (now (c .before .before .before .before .before .before .before .before .before .before .before .before .before .before .before .before .before .before .before .args .id)) (now (c .before .before .before .before .before .before .before .before .before .before .before .before .before .before .before .before .before .before .before .args .bounds)) (is-id (c .before .before .before .before .before .before .before .before .before .before .before .before .before .before .before)) (good (c .before .before .before .before .before .before .before .before .before .before .before .before)) (found (c .before .before .before .before .before .before .before)) (small (c .before .before .before .before .before .before .before .before .before .before .before .before .before .before .before)) (omega (arith, c .before .before .before .before .before .if2 .left)) (ltb-false _ _ (c .before .before .before .before .if3 .left)) (c .before .before .append-range .ensures)
+returns-3 c = range-done (start-else2 (c .before .before .before .before .before) .pre) (now (start-else2 (c .before .before .before .before .before) .args .id)) (now (start-else2 (c .before .before .before .before .before) .args .bounds)) (is-id (before-size (before-at (before-else2 (c .before .before .before .before .before))))) (good (before-at (before-else2 (c .before .before .before .before .before)))) (found (before-else2 (c .before .before .before .before .before))) (small (before-size (before-at (before-else2 (c .before .before .before .before .before))))) (omega (arith, c .before .before .before .before .before .if2 .left)) (ltb-false _ _ (c .before .before .before .before .if3 .left)) (c .before .before .append-range .ensures)
 
 enum-told : tie.Need-enum-told
 enum-told c = search needs
@@ -71,25 +93,25 @@ same-length-3 : tie.Need-same-length-3
 same-length-3 c = search needs
 
 returns-4 : tie.Need-returns-4
-returns-4 c = range-absent (c .before .before .before .before .before .before .before .before .before .before .before .before .pre) (now (c .before .before .before .before .before .before .before .before .before .before .before .before .args .id)) (now (c .before .before .before .before .before .before .before .before .before .before .before .before .args .bounds)) (is-id (c .before .before .before .before .before .before .before .before)) (good (c .before .before .before .before .before)) (rw (c .enum-told .given .1) at (c .before .before .find-txn .ensures))
+returns-4 c = range-absent (start-size (c .before .before .before .before .before) .pre) (now (start-size (c .before .before .before .before .before) .args .id)) (now (start-size (c .before .before .before .before .before) .args .bounds)) (is-id (before-size (c .before .before .before .before .before))) (good (c .before .before .before .before .before)) (rw (c .enum-told .given .1) at (c .before .before .find-txn .ensures))
 
 enum-told-2 : tie.Need-enum-told-2
 enum-told-2 c = search needs
 
 returns-5 : tie.Need-returns-5
-returns-5 c = range-is-empty (c .before .before .before .before .before .before .before .pre) (now (c .before .before .before .before .before .before .before .args .id)) (now (c .before .before .before .before .before .before .before .args .bounds)) (is-id (c .before .before .before)) (sym (c .enum-told2 .given .1) ∙ c .before .before .check-range .ensures)
+returns-5 c = range-is-empty (start-else1 (c .before .before .before) .pre) (now (start-else1 (c .before .before .before) .args .id)) (now (start-else1 (c .before .before .before) .args .bounds)) (is-id (c .before .before .before)) (sym (c .enum-told2 .given .1) ∙ c .before .before .check-range .ensures)
 
 enum-told-3 : tie.Need-enum-told-3
 enum-told-3 c = search needs
 
 returns-6 : tie.Need-returns-6
-returns-6 c = range-too-long (c .before .before .before .before .before .before .before .pre) (now (c .before .before .before .before .before .before .before .args .id)) (now (c .before .before .before .before .before .before .before .args .bounds)) (is-id (c .before .before .before)) (sym (c .enum-told3 .given .1) ∙ c .before .before .check-range .ensures)
+returns-6 c = range-too-long (start-else1 (c .before .before .before) .pre) (now (start-else1 (c .before .before .before) .args .id)) (now (start-else1 (c .before .before .before) .args .bounds)) (is-id (c .before .before .before)) (sym (c .enum-told3 .given .1) ∙ c .before .before .check-range .ensures)
 
 enum-told-4 : tie.Need-enum-told-4
 enum-told-4 c = search needs
 
 returns-7 : tie.Need-returns-7
-returns-7 c = range-refused (c .before .before .before .before .before .before .before .pre) (now (c .before .before .before .before .before .before .before .args .id)) (now (c .before .before .before .before .before .before .before .args .bounds)) (inr (sym (c .enum-told4 .given .1) ∙ c .before .before .check-range .ensures))
+returns-7 c = range-refused (start-else1 (c .before .before .before) .pre) (now (start-else1 (c .before .before .before) .args .id)) (now (start-else1 (c .before .before .before) .args .bounds)) (inr (sym (c .enum-told4 .given .1) ∙ c .before .before .check-range .ensures))
 
 pub track-range-spec : {M : Type 1} → statement M
 track-range-spec =
