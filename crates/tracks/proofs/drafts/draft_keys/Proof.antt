@@ -14,6 +14,10 @@ part-insert-all-start c = search needs
 part-insert-all-end : tie.Need-part-insert-all-end
 part-insert-all-end c = search needs
 
+-- from a named place back to the one before it, and to the start
+abbrev start-insert-all : tie.After-insert-all → tie.Start
+start-insert-all c = c .before .before .before .before
+
 insert-all-requires : tie.Need-insert-all-requires
 insert-all-requires c κs = keys-ready (c .before .before .before .pre)
 
@@ -39,7 +43,7 @@ same-length-2 : tie.Need-same-length-2
 same-length-2 c = search needs
 
 returns-2 : tie.Need-returns-2
-returns-2 c = none-added (c .before .before .before .before .before .before .before .before .pre) _ (rw (c .enum-told .given .1) at (c .before .before .before .before .insert-all .ensures))
+returns-2 c = none-added (start-insert-all (c .before .before .before .before) .pre) _ (rw (c .enum-told .given .1) at (c .before .before .before .before .insert-all .ensures))
 
 pub draft-keys-spec : {M : Type 1} → statement M
 draft-keys-spec =

@@ -12,6 +12,10 @@ Inv-loop draft count key place₀ left₀ place left = Seek draft count key plac
 abbrev μ-loop : tie.MeasureT-loop
 μ-loop draft count key place₀ left₀ place left = left
 
+-- from a named place back to the one before it, and to the start
+abbrev before-in-loop : tie.In-loop Inv-loop μ-loop → tie.At-loop Inv-loop μ-loop
+before-in-loop c = c .before
+
 loop-holds : tie.Need-loop-holds Inv-loop μ-loop
 loop-holds c = seek-start (c .before .before .pre)
 
@@ -37,7 +41,7 @@ returns : tie.Need-returns Inv-loop μ-loop
 returns c = seek-before (c .before .before .before .before .before .loop .inv) (omega arith) (c .before .before .before .key-past .ensures) (is-less (c .before .compare .ensures) (c .if1 .taken))
 
 returns-2 : tie.Need-returns-2 Inv-loop μ-loop
-returns-2 c = seek-there (c .before .before .before .before .before .before .loop .inv) (omega arith) (c .before .before .before .before .key-past .ensures) (is-same (c .before .before .compare .ensures) (c .if2 .taken))
+returns-2 c = seek-there (before-in-loop (c .before .before .before .before .before) .loop .inv) (omega arith) (c .before .before .before .before .key-past .ensures) (is-same (c .before .before .compare .ensures) (c .if2 .taken))
 
 sub-left : tie.Need-sub-left Inv-loop μ-loop
 sub-left c = search needs
@@ -46,7 +50,7 @@ loop-less : tie.Need-loop-less Inv-loop μ-loop
 loop-less c = search needs
 
 loop-again : tie.Need-loop-again Inv-loop μ-loop
-loop-again c = seek-next (c .before .before .before .before .before .before .loop .inv) (omega arith) (c .before .before .before .before .key-past .ensures) (is-more (c .before .before .compare .ensures) (c .before .if1 .left) (c .if2 .left))
+loop-again c = seek-next (before-in-loop (c .before .before .before .before .before) .loop .inv) (omega arith) (c .before .before .before .before .key-past .ensures) (is-more (c .before .before .compare .ensures) (c .before .if1 .left) (c .if2 .left))
 
 returns-3 : tie.Need-returns-3 Inv-loop μ-loop
 returns-3 c = seek-end (c .before .loop .inv) (omega arith)
