@@ -80,14 +80,14 @@ module _ {bs : Bytes} {p : BoundPlaces} (b : BoundsAt bs p) where
         let v = length-slice (p .«end_from») (p .«end_to») bs (omega (arith, keys-within)) in
         (omega (arith, l, x, y, u, v, b .start-begins, b .end-begins, keys-within), omega (arith, l, x, y, u, v, b .start-begins, b .end-begins, keys-within))
 
-    pub judged-long : (512 < p .«start_to» - p .«start_from») ⊎ (512 < p .«end_to» - p .«end_from») → Judged.Long ≡ judged (boundsOf bs)
+    pub judged-long : (keyLimit < p .«start_to» - p .«start_from») ⊎ (keyLimit < p .«end_to» - p .«end_from») → Judged.Long ≡ judged (boundsOf bs)
     judged-long h = sym (ap judged (b .reads) ∙ ap (λ (x : Bool). cond x (cond (notEmpty said) (Judged.Good (rangeBytes said)) Judged.Empty) Judged.Long) (one-long keyLimit said (long h)))
       where
-        long : (512 < p .«start_to» - p .«start_from») ⊎ (512 < p .«end_to» - p .«end_from») → (keyLimit < length (keyOf (said .start))) ⊎ (keyLimit < length (keyOf (said .end)))
+        long : (keyLimit < p .«start_to» - p .«start_from») ⊎ (keyLimit < p .«end_to» - p .«end_from») → (keyLimit < length (keyOf (said .start))) ⊎ (keyLimit < length (keyOf (said .end)))
         long (inl x) = inl (omega (arith, x, sizes))
         long (inr x) = inr (omega (arith, x, sizes))
 
-    module _ (q : ComparableRange) (k : (q .start ≡ p .start) × (q .end ≡ p .end)) (hs : p .«start_to» - p .«start_from» ≤ 512) (he : p .«end_to» - p .«end_from» ≤ 512) where
+    module _ (q : ComparableRange) (k : (q .start ≡ p .start) × (q .end ≡ p .end)) (hs : p .«start_to» - p .«start_from» ≤ keyLimit) (he : p .«end_to» - p .«end_from» ≤ keyLimit) where
       abbrev lent : Range
       lent = rangeOf q (take (p .«start_to» - p .«start_from») (drop (p .«start_from») bs)) (take (p .«end_to» - p .«end_from») (drop (p .«end_from») bs))
 

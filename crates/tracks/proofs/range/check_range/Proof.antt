@@ -6,6 +6,7 @@ use native.Mathlib.Omega.{arith}
 use borrow.Author.Tests.{ltb-true, ltb-false}
 use denote.Ref.{now}
 use lib.ListN.{getD}
+use Rattle.keys.specs.Limit.{keyLimit}
 use Rattle.fields.specs.Forms.{BoundsAt}
 use Rattle.tracks.proofs.JudgeLaws.{keys-within, judged-malformed, judged-long, judged-good, judged-empty}
 use borrow.Author.Needs.{needs}
@@ -23,7 +24,7 @@ seen c = rw (c .p .given .1) at (c .before .before .read-bounds .ensures)
 small : (c : tie.After-p) (i : ℕ) → getD (now (c .before .before .before .before .args .bounds)) i 0 < 256
 small c i = omega (arith, c .before .before .before .shared-slice-known .given i)
 
-short : (c : tie.Else2) → (c .before .before .before .p .given .0 .0 .«start_to» - c .before .before .before .p .given .0 .0 .«start_from» ≤ 512) × (c .before .before .before .p .given .0 .0 .«end_to» - c .before .before .before .p .given .0 .0 .«end_from» ≤ 512)
+short : (c : tie.Else2) → (c .before .before .before .p .given .0 .0 .«start_to» - c .before .before .before .p .given .0 .0 .«start_from» ≤ keyLimit) × (c .before .before .before .p .given .0 .0 .«end_to» - c .before .before .before .p .given .0 .0 .«end_from» ≤ keyLimit)
 short c = (c .before .if1 .left, ltb-false _ _ (c .if2 .left))
 
 read-bounds-requires : tie.Need-read-bounds-requires
