@@ -10,7 +10,7 @@ use lib.ListN.{length, length-append}
 use Rattle.fields.specs.Fields.{keyList}
 use Rattle.fields.specs.Forms.{shortKeys}
 use Rattle.machine.specs.Lists.{keep, sum}
-use Rattle.machine.specs.State.{Bytes, Txn, Entry, State, Ceilings, withActive, withEntries, advanced, Fits, MachineState, marks, keyBytes, txnMarks, txnBytes, entryMarks, entryBytes, setBytes}
+use Rattle.machine.specs.State.{Bytes, Txn, Entry, State, Ceilings, withActive, withEntries, advanced, Fits, MachineState, marks, keyBytes, txnMarks, txnBytes, entryMarks, entryBytes, setBytes, idSize}
 use Rattle.machine.specs.Sets.{insertAll, find, without, prune, anyActive}
 use Rattle.machine.specs.Calls.{commit, batch, dropTxn, malformed, long, full, done, absent, refused}
 use Rattle.machine.specs.Serve.{entry, enter, answer}
@@ -55,15 +55,15 @@ module _ (L : Ceilings) (s : State) (left : List Txn) (n : ℕ) (ks : List Bytes
   enter-done h f = rw (some-left left listed h, fits-means L (joined left n ks s) .1 f)
 
 module _ (L : Ceilings) (s : State) (i : Bytes) (n : ℕ) where
-  pub commit-malformed : (length i ≡ 16 → ⊥) → answer L s (commit i n) ≡ refused malformed
+  pub commit-malformed : (length i ≡ idSize → ⊥) → answer L s (commit i n) ≡ refused malformed
   unfolding answer
   commit-malformed h = rw (no-id i h)
 
-  pub commit-absent : length i ≡ 16 → find i (s .active) ≡ none → answer L s (commit i n) ≡ absent (max (s .last) n) (advanced n s)
+  pub commit-absent : length i ≡ idSize → find i (s .active) ≡ none → answer L s (commit i n) ≡ absent (max (s .last) n) (advanced n s)
   unfolding answer
   commit-absent h e = rw (is-id i h, e)
 
-  module _ (t : Txn) (h : length i ≡ 16) (e : find i (s .active) ≡ some t) where
+  module _ (t : Txn) (h : length i ≡ idSize) (e : find i (s .active) ≡ some t) where
     commit-enters : answer L s (commit i n) ≡ enter L s (without i (s .active)) n (t .writes)
     unfolding answer
     commit-enters = rw (is-id i h, e)
@@ -134,15 +134,15 @@ module _ (L : Ceilings) (s : State) (n : ℕ) (bs : Bytes) where
           })
 
 module _ (L : Ceilings) (s : State) (i : Bytes) where
-  pub drop-malformed : (length i ≡ 16 → ⊥) → answer L s (dropTxn i) ≡ refused malformed
+  pub drop-malformed : (length i ≡ idSize → ⊥) → answer L s (dropTxn i) ≡ refused malformed
   unfolding answer
   drop-malformed h = rw (no-id i h)
 
-  pub drop-absent : (es : List Entry) → length i ≡ 16 → find i (s .active) ≡ none → prune (s .active) (s .entries) ≡ es → answer L s (dropTxn i) ≡ absent (length es) (withEntries es s)
+  pub drop-absent : (es : List Entry) → length i ≡ idSize → find i (s .active) ≡ none → prune (s .active) (s .entries) ≡ es → answer L s (dropTxn i) ≡ absent (length es) (withEntries es s)
   unfolding answer
   drop-absent es h e p = rw (is-id i h, e, without-same i (s .active) e, p)
 
-  pub drop-done : (t : Txn) (left : List Txn) (es : List Entry) → length i ≡ 16 → find i (s .active) ≡ some t → without i (s .active) ≡ left → prune left (s .entries) ≡ es
+  pub drop-done : (t : Txn) (left : List Txn) (es : List Entry) → length i ≡ idSize → find i (s .active) ≡ some t → without i (s .active) ≡ left → prune left (s .entries) ≡ es
       → answer L s (dropTxn i) ≡ done (length es) (withEntries es (withActive left s))
   unfolding answer
   drop-done t left es h e w p = rw (is-id i h, e, w, p)

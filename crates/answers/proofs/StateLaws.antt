@@ -8,7 +8,7 @@ use native.Mathlib.Omega.{arith}
 use borrow.Author.Tests.{eq-eqb, ne-eqb}
 use lib.ListN.{length}
 use Rattle.machine.specs.Lists.{sum}
-use Rattle.machine.specs.State.{Bytes, Txn, State, Ceilings, newTxn, fits, Fits, marks, txnMarks, txnBytes}
+use Rattle.machine.specs.State.{Bytes, Txn, State, Ceilings, newTxn, fits, Fits, marks, txnMarks, txnBytes, idSize}
 use Rattle.machine.specs.Sets.{find, leastOf, conflict}
 use Rattle.machine.specs.Calls.{begin, check, minimum, malformed, again, full, done, absent, refused}
 use Rattle.machine.specs.Serve.{isId, verdict, answer}
@@ -16,11 +16,11 @@ use Rattle.machine.specs.Serve as Serve
 use Rattle.machine.proofs.Kept.{fits-means}
 use Rattle.machine.proofs.ActiveLaws.{put-new-length, put-new-sum}
 
-pub is-id : (i : Bytes) → length i ≡ 16 → isId i ≡ true
-is-id i e = eq-eqb (length i) 16 e
+pub is-id : (i : Bytes) → length i ≡ idSize → isId i ≡ true
+is-id i e = eq-eqb (length i) idSize e
 
-pub no-id : (i : Bytes) → (length i ≡ 16 → ⊥) → isId i ≡ false
-no-id i e = ne-eqb (length i) 16 e
+pub no-id : (i : Bytes) → (length i ≡ idSize → ⊥) → isId i ≡ false
+no-id i e = ne-eqb (length i) idSize e
 
 -- nobody is active where nobody is counted
 pub none-left : (ts : List Txn) → length ts ≡ 0 → ts ≡ []
@@ -39,15 +39,15 @@ module _ (L : Ceilings) (s : State) (i : Bytes) where
   abbrev pub begun : State
   begun = Serve.begun i s
 
-  pub begin-malformed : (length i ≡ 16 → ⊥) → answer L s (begin i) ≡ refused malformed
+  pub begin-malformed : (length i ≡ idSize → ⊥) → answer L s (begin i) ≡ refused malformed
   unfolding answer
   begin-malformed h = rw (no-id i h)
 
-  pub begin-again : (t : Txn) → length i ≡ 16 → find i (s .active) ≡ some t → answer L s (begin i) ≡ refused again
+  pub begin-again : (t : Txn) → length i ≡ idSize → find i (s .active) ≡ some t → answer L s (begin i) ≡ refused again
   unfolding answer
   begin-again t h e = rw (is-id i h, e)
 
-  pub begin-full : length i ≡ 16 → find i (s .active) ≡ none → L .active ≤ length (s .active) → answer L s (begin i) ≡ refused full
+  pub begin-full : length i ≡ idSize → find i (s .active) ≡ none → L .active ≤ length (s .active) → answer L s (begin i) ≡ refused full
   unfolding answer
   begin-full h e k = rw (is-id i h, e, fits-not L begun (λ f. omega (arith, f .active, put-new-length (newTxn i (s .last)) (s .active) e)))
 
@@ -62,19 +62,19 @@ module _ (L : Ceilings) (s : State) (i : Bytes) where
         bytes = omega (arith, f .bytes, put-new-sum txnBytes t (s .active) e);
       }
 
-  pub begin-done : length i ≡ 16 → find i (s .active) ≡ none → length (s .active) < L .active → Fits L s → answer L s (begin i) ≡ done (s .last) begun
+  pub begin-done : length i ≡ idSize → find i (s .active) ≡ none → length (s .active) < L .active → Fits L s → answer L s (begin i) ≡ done (s .last) begun
   unfolding answer
   begin-done h e k f = rw (is-id i h, e, fits-means L begun .1 (begin-fits e k f))
 
-  pub check-malformed : (length i ≡ 16 → ⊥) → answer L s (check i) ≡ refused malformed
+  pub check-malformed : (length i ≡ idSize → ⊥) → answer L s (check i) ≡ refused malformed
   unfolding answer
   check-malformed h = rw (no-id i h)
 
-  pub check-absent : length i ≡ 16 → find i (s .active) ≡ none → answer L s (check i) ≡ absent 0 s
+  pub check-absent : length i ≡ idSize → find i (s .active) ≡ none → answer L s (check i) ≡ absent 0 s
   unfolding answer
   check-absent h e = rw (is-id i h, e)
 
-  pub check-done : (t : Txn) → length i ≡ 16 → find i (s .active) ≡ some t → answer L s (check i) ≡ done (verdict (conflict t (s .entries))) s
+  pub check-done : (t : Txn) → length i ≡ idSize → find i (s .active) ≡ some t → answer L s (check i) ≡ done (verdict (conflict t (s .entries))) s
   unfolding answer
   check-done t h e = rw (is-id i h, e)
 

@@ -11,7 +11,7 @@ use Rattle.bounds.specs.Ranges.{Range, notEmpty}
 use Rattle.fields.specs.Fields.{keyList, boundsOf}
 use Rattle.fields.specs.Forms.{shortKeys}
 use Rattle.machine.specs.declared.Which.{Which}
-use Rattle.machine.specs.State.{Bytes, Txn, State, Ceilings, Fits, MachineState, marks, keyBytes, txnMarks, txnBytes}
+use Rattle.machine.specs.State.{Bytes, Txn, State, Ceilings, Fits, MachineState, marks, keyBytes, txnMarks, txnBytes, idSize}
 use Rattle.machine.specs.Sets.{find}
 use Rattle.machine.specs.Calls.{trackKeys, trackRange, malformed, long, empty, full, done, absent, refused}
 use Rattle.machine.specs.Serve.{isId, shortRange, addKeys, addRange, withTxn, track, answer}
@@ -51,7 +51,7 @@ module _ (L : Ceilings) (s : State) (i : Bytes) (f : Txn → Txn) where
 -- ---- the forms of the arguments
 
 module _ (L : Ceilings) (s : State) (i bs : Bytes) where
-  pub keys-malformed : (w : Which) → ((length i ≡ 16 → ⊥) ⊎ (keyList bs ≡ none)) → answer L s (trackKeys w i bs) ≡ refused malformed
+  pub keys-malformed : (w : Which) → ((length i ≡ idSize → ⊥) ⊎ (keyList bs ≡ none)) → answer L s (trackKeys w i bs) ≡ refused malformed
   unfolding answer
   keys-malformed w (inl h) = rw (no-id i h)
   keys-malformed w (inr e) = go (isId i) refl
@@ -60,7 +60,7 @@ module _ (L : Ceilings) (s : State) (i bs : Bytes) where
       go true q = rw (q, e)
       go false q = rw q
 
-  pub range-malformed : ((length i ≡ 16 → ⊥) ⊎ (boundsOf bs ≡ none)) → answer L s (trackRange i bs) ≡ refused malformed
+  pub range-malformed : ((length i ≡ idSize → ⊥) ⊎ (boundsOf bs ≡ none)) → answer L s (trackRange i bs) ≡ refused malformed
   unfolding answer
   range-malformed (inl h) = rw (no-id i h)
   range-malformed (inr e) = go (isId i) refl
@@ -69,7 +69,7 @@ module _ (L : Ceilings) (s : State) (i bs : Bytes) where
       go true q = rw (q, e)
       go false q = rw q
 
-  module _ (h : length i ≡ 16) where
+  module _ (h : length i ≡ idSize) where
     pub keys-long : (w : Which) (ks : List Bytes) → keyList bs ≡ some ks → shortKeys (L .key) ks ≡ false → answer L s (trackKeys w i bs) ≡ refused long
     unfolding answer
     keys-long w ks e k = rw (is-id i h, e, k)

@@ -11,6 +11,7 @@ use Rattle.keys.specs.Order.{order, isLess}
 use Rattle.kinds.specs.Bounds.{Bound, unbounded, included, excluded}
 use Rattle.bounds.specs.Ranges.{Range, range, notEmpty}
 use Rattle.ranges.specs.Made.{keyOf, kindOf}
+use Rattle.kinds.specs.declared.kind.Kind.the-variants.{Unbounded, Included, Excluded}
 use Rattle.fields.specs.Forms.{boundTag}
 use Rattle.machine.specs.State.{Bytes}
 use Rattle.codec.specs.Codec.{Codec}
@@ -51,13 +52,13 @@ setForm m = listForm (keyForm m) below
 
 -- a bound as document 01's field: its tag, and its key; an unbounded one has length 0
 abbrev pub isTag : ℕ → Bool
-isTag t = eqb t 0x10 || (eqb t 0x11 || eqb t 0x12)
+isTag t = eqb t (boundTag Unbounded) || (eqb t (boundTag Included) || eqb t (boundTag Excluded))
 
 abbrev pub tagLimit : ℕ → ℕ → ℕ
-tagLimit m t = cond (eqb t 0x10) 0 m
+tagLimit m t = cond (eqb t (boundTag Unbounded)) 0 m
 
 abbrev pub boundAs : ℕ → Bytes → Bound
-boundAs t k = cond (eqb t 0x10) unbounded (cond (eqb t 0x11) (included k) (excluded k))
+boundAs t k = cond (eqb t (boundTag Unbounded)) unbounded (cond (eqb t (boundTag Included)) (included k) (excluded k))
 
 abbrev pub tagged : Bound → ℕ × Bytes
 tagged b = (boundTag (kindOf b), keyOf b)
@@ -74,16 +75,16 @@ no-bytes : (k : Bytes) → length k ≤ 0 → [] ≡ k
 no-bytes [] h = refl
 no-bytes (x ∷ k) h = absurd (omega arith)
 
-bound-cases : (m t : ℕ) (k : Bytes) (a b c : Bool) → eqb t 0x10 ≡ a → eqb t 0x11 ≡ b → eqb t 0x12 ≡ c → (a || (b || c)) ≡ true → length k ≤ cond a 0 m
+bound-cases : (m t : ℕ) (k : Bytes) (a b c : Bool) → eqb t (boundTag Unbounded) ≡ a → eqb t (boundTag Included) ≡ b → eqb t (boundTag Excluded) ≡ c → (a || (b || c)) ≡ true → length k ≤ cond a 0 m
     → tagged (cond a unbounded (cond b (included k) (excluded k))) ≡ (t, k)
-bound-cases m t k true b c ea eb ec o l = ap₂ (λ (n : ℕ) (y : Bytes). (n, y)) (sym (eqb-true t 0x10 ea)) (no-bytes k l)
-bound-cases m t k false true c ea eb ec o l = ap (λ (n : ℕ). (n, k)) (sym (eqb-true t 0x11 eb))
-bound-cases m t k false false true ea eb ec o l = ap (λ (n : ℕ). (n, k)) (sym (eqb-true t 0x12 ec))
+bound-cases m t k true b c ea eb ec o l = ap₂ (λ (n : ℕ) (y : Bytes). (n, y)) (sym (eqb-true t (boundTag Unbounded) ea)) (no-bytes k l)
+bound-cases m t k false true c ea eb ec o l = ap (λ (n : ℕ). (n, k)) (sym (eqb-true t (boundTag Included) eb))
+bound-cases m t k false false true ea eb ec o l = ap (λ (n : ℕ). (n, k)) (sym (eqb-true t (boundTag Excluded) ec))
 bound-cases m t k false false false ea eb ec o l = absurd (let z : _≡_ {A = ℕ} 0 1 = cc in omega arith)
 
 pub bound-same : (m : ℕ) (p : ℕ × Bytes) → BoundRaw m .Ok p → tagged (boundAs (p .0) (p .1)) ≡ p
 unfolding bind only number keyForm via raw
-bound-same m p o = bound-cases m (p .0) (p .1) (eqb (p .0) 0x10) (eqb (p .0) 0x11) (eqb (p .0) 0x12) refl refl refl (o .0 .1) (leb-true _ _ (o .1 .0 .1))
+bound-same m p o = bound-cases m (p .0) (p .1) (eqb (p .0) (boundTag Unbounded)) (eqb (p .0) (boundTag Included)) (eqb (p .0) (boundTag Excluded)) refl refl refl (o .0 .1) (leb-true _ _ (o .1 .0 .1))
 
 unfoldable pub boundForm : ℕ → Codec Bound
 boundForm m = via (BoundRaw m) (λ p. boundAs (p .0) (p .1)) tagged bound-back (bound-same m)

@@ -1,5 +1,6 @@
 -- Where the parts of a room and of its records stand, and what they take: the names that the code has them under in src/lib.rt.
 use Prim.Native.Nat.{ℕ, _+_}
+pub use Rattle.machine.specs.State.{idSize}
 
 -- ---- what numbers take: a stamp, a sequence or a start; the count of a list; a key's length; a bound's tag; an id
 
@@ -14,9 +15,6 @@ lengthSize = 2
 
 abbrev pub tagSize : ℕ
 tagSize = 1
-
-abbrev pub idSize : ℕ
-idSize = 16
 
 -- ---- where the parts of a room stand: the last number behind the stamp; then its part, the counts first
 

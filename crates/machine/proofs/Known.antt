@@ -15,7 +15,7 @@ use Rattle.fields.specs.Forms.{shortKeys}
 use Rattle.machine.specs.declared.Which.{Which}
 use Rattle.machine.specs.declared.Which.the-variants.{Writes, Reads}
 use Rattle.machine.specs.Lists.{All}
-use Rattle.machine.specs.State.{Bytes, Txn, State, Ceilings, setOf, MachineState, TxnOk, SetOk, Ascends, ids, txnMarks}
+use Rattle.machine.specs.State.{Bytes, Txn, State, Ceilings, setOf, MachineState, TxnOk, SetOk, Ascends, ids, txnMarks, idSize}
 use Rattle.machine.specs.Sets.{stands, insertAll, put, find}
 use Rattle.machine.specs.Calls.{trackKeys, on, holding, done, replied}
 use Rattle.machine.specs.Serve.{addKeys, track, answer, serve}
@@ -61,11 +61,11 @@ its-set : (L : Ceilings) (n : ℕ) (t : Txn) (w : Which) → TxnOk L n t → Set
 its-set L n t Writes o = o .writes
 its-set L n t Reads o = o .reads
 
-pub known-keys : (L : Ceilings) (s : State) (w : Which) (i bs : Bytes) (t : Txn) (ks : List Bytes) → MachineState L s → length i ≡ 16
+pub known-keys : (L : Ceilings) (s : State) (w : Which) (i bs : Bytes) (t : Txn) (ks : List Bytes) → MachineState L s → length i ≡ idSize
     → find i (s .active) ≡ some t → keyList bs ≡ some ks → All (λ k. List·Memᴰ k (setOf w t)) ks
     → serve L (holding s) (on (trackKeys w i bs)) ≡ replied 0 0 (holding s)
 unfolding serve answer
 known-keys L s w i bs t ks ok d e g a =
     let own = its-set L (s .last) t w (all-of (TxnOk L (s .last)) (s .active) t (find-holds i (s .active) t e) (ok .txns)) in
     let same = set-same w (insertAll ks (setOf w t)) t (insertAll-known ks (setOf w t) a (own .once)) in
-    rw (eq-eqb (length i) 16 d, g, known-short L (setOf w t) ks own a, track-same L s ok i t e (addKeys w ks) same)
+    rw (eq-eqb (length i) idSize d, g, known-short L (setOf w t) ks own a, track-same L s ok i t e (addKeys w ks) same)

@@ -12,7 +12,7 @@ use Rattle.bounds.specs.Ranges.{Range}
 use Rattle.fields.specs.Fields.{boundsOf}
 use Rattle.machine.specs.Lists.{keep}
 use Rattle.machine.specs.declared.Which.the-variants.{Writes, Reads}
-use Rattle.machine.specs.State.{Bytes, Txn, Entry, State, Ceilings, freshState, advanced}
+use Rattle.machine.specs.State.{Bytes, Txn, Entry, State, Ceilings, freshState, advanced, idSize}
 use Rattle.machine.specs.Sets.{insertAll, put, find, without, leastOf, least, prune, inReach, anyActive, conflict}
 use Rattle.machine.specs.Calls.{Op, begin, check, commit, batch, dropTxn, minimum, on, Room, short, broken, holding, Refusal, Answer, done, absent, refused, Reply, replied, reply, _>>=_, given}
 use Rattle.machine.specs.Serve.{entry, verdict, withTxn, begun, entered, dropped, answer, serve}
@@ -198,10 +198,10 @@ agrees L s m c a =
 -- ---------------------------------------------------------------- runs
 
 -- the Rust answers false for an id that is not active, whose check has status 1 and value 0
-check-agrees : (L : Ceilings) (s : State) (m : Manager) (i : Bytes) → Agree m s → length i ≡ 16
+check-agrees : (L : Ceilings) (s : State) (m : Manager) (i : Bytes) → Agree m s → length i ≡ idSize
     → serve L (holding s) (on (check i)) .value ≡ asNumber (checkHasConflict i m)
 unfolding serve answer checkHasConflict
-check-agrees L s m i a e = rw (eq-eqb (length i) 16 e, a .active) (go (find i (s .active)))
+check-agrees L s m i a e = rw (eq-eqb (length i) idSize e, a .active) (go (find i (s .active)))
   where
     go : (o : Option Txn)
         → reply s (given o (absent 0 s) >>= λ t. done (verdict (conflict t (s .entries))) s) .value
@@ -230,7 +230,7 @@ pub record Equals (L : Ceilings) (m : Manager) (room : Room) : Type 0 where
   pub held : State
   pub holds : room ≡ holding held
   pub same : Agree m held
-  pub verdicts : (i : Bytes) → length i ≡ 16 → serve L room (on (check i)) .value ≡ asNumber (checkHasConflict i m)
+  pub verdicts : (i : Bytes) → length i ≡ idSize → serve L room (on (check i)) .value ≡ asNumber (checkHasConflict i m)
   pub least-start : serve L room (on minimum) ≡ minimumReply room (minStartedSeq (m .activeTxns))
   pub answers : (c : Op) → Replies m c (serve L room (on c))
 

@@ -14,7 +14,7 @@ use Rattle.ranges.specs.Made.{keyOf}
 use Rattle.fields.specs.Fields.{keyList, boundsOf}
 use Rattle.fields.specs.Forms.{shortKeys}
 use Rattle.machine.specs.Lists.{isNil}
-use Rattle.machine.specs.State.{Bytes, Txn, State, Ceilings}
+use Rattle.machine.specs.State.{Bytes, Txn, State, Ceilings, idSize}
 use Rattle.machine.specs.Sets.{find}
 use Rattle.machine.specs.Calls.{Op, takes, ofSome}
 use Rattle.machine.specs.Serve.{isId, isNew, shortRange}
@@ -78,10 +78,10 @@ id-means : (i : Bytes) → Says (not (isId i)) (BadId i)
 id-means i = (out, λ h. back h (isId i) refl)
   where
     out : not (isId i) ≡ true → BadId i
-    out e q = false≢true (sym (ap not (eq-eqb (length i) 16 q)) ∙ e)
+    out e q = false≢true (sym (ap not (eq-eqb (length i) idSize q)) ∙ e)
 
     back : BadId i → (b : Bool) → isId i ≡ b → not b ≡ true
-    back h true e = absurd (h (eqb-true (length i) 16 e))
+    back h true e = absurd (h (eqb-true (length i) idSize e))
     back h false e = refl
 
 pub malformed-means : (c : Op) → Says (isMalformed c) (Malformed c)

@@ -1,6 +1,5 @@
 -- The Rust's manager as functions on values, with none of the machine's own steps. What it shares with the machine:
--- * values: Txn, an active TransactionState beside its id (its committed_seq is None), and how one is made and one of its parts set;
---   Range; the calls with their arguments;
+-- * values: Txn, an active TransactionState beside its id (its committed_seq is None); Range; the calls with their arguments;
 -- * a HashSet's one ascending list, where `extend` is insertAll; a HashMap's, where `insert` is put, `get` is find and `remove` is
 --   without; the equality of keys (laws in SetLaws.antt and ActiveLaws.antt);
 -- * tests and parts of a list, `any`, `keep` and `isNil`; whether a range holds a key; how lists and bounds are read from bytes.
@@ -14,9 +13,8 @@ use lib.Dec.{leb, ltb}
 use lib.ListN.{length}
 use Rattle.bounds.specs.Ranges.{Range, holds}
 use Rattle.fields.specs.Fields.{keyList, boundsOf}
-use Rattle.machine.specs.declared.Which.the-variants.{Writes, Reads}
 use Rattle.machine.specs.Lists.{isNil, any, keep}
-use Rattle.machine.specs.State.{Bytes, Txn, Entry, State, Ceilings, newTxn, choose, withSet, withRanges}
+use Rattle.machine.specs.State.{Bytes, Txn, Entry, State, Ceilings, choose}
 use Rattle.machine.specs.Sets.{equal, insertAll, put, find, without}
 use Rattle.machine.specs.Calls.{Op, begin, trackKeys, trackRange, check, commit, batch, dropTxn, minimum, on, Room}
 use Rattle.machine.specs.Serve.{serve}
@@ -70,19 +68,22 @@ manager ts cs n = record { activeTxns = ts; recentCommittedTxns = cs; oracle = n
 
 -- new_transaction's TransactionState: `started_seq: seq`, and all sets empty
 abbrev pub newTransaction : Bytes → ℕ → Txn
-newTransaction i seq = newTxn i seq
+newTransaction i seq = record { id = i; start = seq; writes = []; reads = []; ranges = [] }
 
 -- `self.write_keys.extend(keys)`
 abbrev pub trackWriteKeys : List Bytes → Txn → Txn
-trackWriteKeys keys t = withSet Writes (insertAll keys (t .writes)) t
+trackWriteKeys keys t =
+    record { id = t .id; start = t .start; writes = insertAll keys (t .writes); reads = t .reads; ranges = t .ranges }
 
 -- `self.read_keys.extend(keys)`
 abbrev pub trackReadKeys : List Bytes → Txn → Txn
-trackReadKeys keys t = withSet Reads (insertAll keys (t .reads)) t
+trackReadKeys keys t =
+    record { id = t .id; start = t .start; writes = t .writes; reads = insertAll keys (t .reads); ranges = t .ranges }
 
 -- `self.read_ranges.push(range)`
 abbrev pub trackReadRange : Range → Txn → Txn
-trackReadRange range t = withRanges (t .ranges ++ (range ∷ [])) t
+trackReadRange range t =
+    record { id = t .id; start = t .start; writes = t .writes; reads = t .reads; ranges = t .ranges ++ (range ∷ []) }
 
 -- the lesser of a number and the least of the others, if there are others
 abbrev pub minWith : ℕ → Option ℕ → ℕ

@@ -11,7 +11,7 @@ use Rattle.ranges.specs.Made.{keyOf}
 use Rattle.fields.specs.Fields.{keyList, boundsOf}
 use Rattle.fields.specs.Forms.{shortKeys}
 use Rattle.machine.specs.declared.Which.{Which}
-use Rattle.machine.specs.State.{Bytes, Txn, Entry, State, Ceilings, setOf, withSet, withRanges, freshState, withActive, withEntries, advanced, txnMarks, fits}
+use Rattle.machine.specs.State.{Bytes, Txn, Entry, State, Ceilings, setOf, withSet, withRanges, freshState, withActive, withEntries, advanced, txnMarks, fits, idSize}
 pub use Rattle.machine.specs.State.{newTxn}
 use Rattle.machine.specs.Sets.{insertAll, put, find, without, least, pruned, emptiedIfIdle, conflict}
 use Rattle.machine.specs.Calls.{Op, begin, trackKeys, trackRange, check, commit, batch, dropTxn, minimum, Call, fresh, on, Room, short, broken, holding, malformed, again, long, empty, full, Answer, done, absent, refused, Reply, replied, reply, _>>=_, _>>_, need, given}
@@ -20,7 +20,7 @@ abbrev pub entry : ℕ → List Bytes → Entry
 entry n ks = record { seq = n; keys = ks }
 
 abbrev pub isId : Bytes → Bool
-isId i = eqb (length i) 16
+isId i = eqb (length i) idSize
 
 abbrev pub isNew : Option Txn → Bool
 isNew none = true

@@ -18,6 +18,10 @@ use Rattle.machine.specs.declared.Which.the-variants.{Writes, Reads}
 abbrev pub Bytes : Type 0
 Bytes = List ℕ
 
+-- an id's length, "16-byte"
+abbrev pub idSize : ℕ
+idSize = 16
+
 -- "active transactions by 16-byte id, each with a start, a write set, a read set and a list of ranges"
 pub record Txn : Type 0 where
   pub id : Bytes
@@ -149,7 +153,7 @@ pub record RangeOk (L : Ceilings) (r : Range) : Type 0 where
   pub not-empty : notEmpty r ≡ true
 
 pub record TxnOk (L : Ceilings) (last : ℕ) (t : Txn) : Type 0 where
-  pub id-length : length (t .id) ≡ 16
+  pub id-length : length (t .id) ≡ idSize
   pub started : t .start ≤ last
   pub writes : SetOk L (t .writes)
   pub reads : SetOk L (t .reads)

@@ -11,7 +11,7 @@ use Rattle.bounds.specs.Ranges.{Range, notEmpty}
 use Rattle.ranges.specs.Made.{keyOf}
 use Rattle.fields.specs.Fields.{keyList, boundsOf}
 use Rattle.machine.specs.declared.Which.{Which}
-use Rattle.machine.specs.State.{Bytes, Txn, State, Ceilings, newTxn, setOf, advanced, marks, keyBytes, setBytes, rangeBytes}
+use Rattle.machine.specs.State.{Bytes, Txn, State, Ceilings, newTxn, setOf, advanced, marks, keyBytes, setBytes, rangeBytes, idSize}
 use Rattle.machine.specs.Sets.{insertAll, find, least, pruned, conflict}
 use Rattle.machine.specs.Calls.{Op, begin, trackKeys, trackRange, check, commit, batch, dropTxn, minimum, takes}
 use Rattle.machine.specs.Serve.{verdict}
@@ -24,7 +24,7 @@ Has (some a) P = P a
 -- ---------------------------------------------------------------- row 2
 
 abbrev pub BadId : Bytes → Type 0
-BadId i = length i ≡ 16 → ⊥
+BadId i = length i ≡ idSize → ⊥
 
 abbrev pub BadList : Bytes → Type 0
 BadList bs = keyList bs ≡ none

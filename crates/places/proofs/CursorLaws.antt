@@ -4,6 +4,7 @@ use mathlib.Core.Path.{_≡_, sym}
 use mathlib.Core.Bool.{Bool}
 use mathlib.Core.List.{List, _∷_}
 use native.Mathlib.Omega.{arith}
+use Rattle.layout.specs.Offsets.{countSize}
 use Rattle.codec.specs.Codec.{Codec}
 use Rattle.layout.specs.Places.{Row, Here, Ends}
 use Rattle.layout.proofs.PartLaws.{number-read-is}
@@ -23,4 +24,4 @@ module _ {A : Type 0} (C : Codec A) (s : List ℕ) (c : Cursor) where
 
   -- the records of a list stand behind its count
   unfoldable pub before-list : (before : A → A → Bool) (at : ℕ) (xs : List A) (e : ℕ) → OpenList C before s at xs e → CountAt s at c → Before C s c xs
-  before-list before at xs e o n = record { end = e; row = rw (n .begins) (o .row); count = sym (number-read-is 2 (o .count-at) (n .counts)) }
+  before-list before at xs e o n = record { end = e; row = rw (n .begins) (o .row); count = sym (number-read-is countSize (o .count-at) (n .counts)) }

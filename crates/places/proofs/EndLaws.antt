@@ -8,6 +8,7 @@ use Rattle.codec.specs.Codec.{Codec}
 use Rattle.codec.specs.Formats.{number}
 use Rattle.codec.specs.Places.{Stands}
 use Rattle.machine.specs.State.{Bytes}
+use Rattle.layout.specs.Offsets.{lengthSize, tagSize, boundKeyAt}
 use Rattle.layout.specs.Keys.{keyForm, setForm, below, boundForm, rangeForm, rangesForm, anyOrder}
 use Rattle.layout.specs.Places.{Part, Here, Ends}
 use Rattle.layout.proofs.PartLaws.{part-one, number-read-is}
@@ -64,10 +65,10 @@ module _ {A : Type 0} (C : Codec A) where
         go [] b z = ends-at D (w .whole) (b .row .0 ∙ z)
         go (x ∷ xs) b z = absurd (omega (arith, b .count))
 
-pub key-end : (m : ℕ) {s : List ℕ} {at n f : ℕ} {k : Bytes} → Part (keyForm m) s at k f → Stands (number 2) s at n (at + 2) → at + 2 + n ≡ f
-key-end m p w = let o = open-key m p in omega (arith, number-read-is 2 (o .length-at) w)
+pub key-end : (m : ℕ) {s : List ℕ} {at n f : ℕ} {k : Bytes} → Part (keyForm m) s at k f → Stands (number lengthSize) s at n (at + lengthSize) → at + lengthSize + n ≡ f
+key-end m p w = let o = open-key m p in omega (arith, number-read-is lengthSize (o .length-at) w)
 
-pub bound-end : (m : ℕ) {s : List ℕ} {at n f : ℕ} {b : Bound} → Part (boundForm m) s at b f → Stands (number 2) s (at + 1) n (at + 1 + 2) → at + 3 + n ≡ f
+pub bound-end : (m : ℕ) {s : List ℕ} {at n f : ℕ} {b : Bound} → Part (boundForm m) s at b f → Stands (number lengthSize) s (at + tagSize) n (at + tagSize + lengthSize) → at + boundKeyAt + n ≡ f
 bound-end m p w = omega (arith, key-end _ (open-bound m p .key) w)
 
 pub set-walk : (m : ℕ) {s : List ℕ} {at : ℕ} {c : Cursor} (x : Here (setForm m) s at) → CountAt s at c → Walk (keyForm m) (setForm m) s at c

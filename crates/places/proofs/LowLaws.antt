@@ -8,6 +8,7 @@ use Rattle.codec.specs.Places.{Stands}
 use Rattle.machine.specs.State.{Txn, base}
 use Rattle.machine.specs.Sets.{leastOf}
 use Rattle.machine.proofs.Minimum.{least-is}
+use Rattle.layout.specs.Offsets.{numberSize, startAt}
 use Rattle.layout.specs.Records.{txnForm}
 use Rattle.layout.specs.Places.{Rows, Ends}
 use Rattle.layout.proofs.PartLaws.{number-read-is}
@@ -26,11 +27,11 @@ Low s at n most c low = Search (txnForm (base .key)) (Lower most low) s at n c
 pub low-start : {s : List ℕ} {at n : ℕ} {c : Cursor} (most : ℕ) → Rows (txnForm (base .key)) s at n → (c .at ≡ at) × (c .left ≡ n) → Low s at n most c most
 low-start most x q = start (txnForm (base .key)) (Lower most most) (λ xs. refl) x q
 
-pub low-next : {s : List ℕ} {at n r : ℕ} {c d : Cursor} (most low v l : ℕ) → Turn (txnForm (base .key)) (Lower most low) s at n c → Ends (txnForm (base .key)) s (c .at) r → Stands (number 8) s (c .at + 16) v (c .at + 16 + 8) → l ≡ min low v
+pub low-next : {s : List ℕ} {at n r : ℕ} {c d : Cursor} (most low v l : ℕ) → Turn (txnForm (base .key)) (Lower most low) s at n c → Ends (txnForm (base .key)) s (c .at) r → Stands (number numberSize) s (c .at + startAt) v (c .at + startAt + 8) → l ≡ min low v
     → d ≡ past c r → Low s at n most d l
 unfolding lowest
 low-next most low v l t p w q z =
-    let i : v ≡ t .one .start = number-read-is 8 (open-txn (base .key) (t .walk .after .row .first) .start-at) w in
+    let i : v ≡ t .one .start = number-read-is numberSize (open-txn (base .key) (t .walk .after .row .first) .start-at) w in
     let j : min low (t .one .start) ≡ l = ap (min low) (sym i) ∙ sym q in
     next (txnForm (base .key)) (Lower most low) (Lower most l) t p z (rw append-assoc (t .holds ∙ ap (λ (m : ℕ). lowest m (t .back)) j))
 

@@ -15,6 +15,7 @@ use Rattle.ranges.specs.Made.{keyOf, kindOf}
 use Rattle.fields.specs.Fields.{boundTag}
 use Rattle.machine.specs.State.{Bytes, base}
 use Rattle.machine.specs.Sets.{equal}
+use Rattle.layout.specs.Offsets.{lengthSize, tagSize, boundKeyAt}
 use Rattle.codec.proofs.NumberLaws.{stands-number}
 use Rattle.ranges.proofs.MadeLaws.{bound-back}
 use Rattle.moves.proofs.SpliceLaws.{drop-take}
@@ -27,20 +28,20 @@ use Rattle.places.specs.Cursors.{KindAt, IsKey, Holds}
 
 module _ (s : List ℕ) (at : ℕ) where
   -- a key, as the part of the room that is lent
-  pub key-ends : (r : ℕ) → Here (keyForm (base .key)) s at → Ends (keyForm (base .key)) s at r → (at + 2 ≤ r) × (r ≤ length s)
+  pub key-ends : (r : ℕ) → Here (keyForm (base .key)) s at → Ends (keyForm (base .key)) s at r → (at + lengthSize ≤ r) × (r ≤ length s)
   key-ends r h n =
       let k = open-key (base .key) (h .part) in
       let e = n .is (h .val) (h .end) (h .part) in
       (omega (arith, k .ends), omega (arith, k .inside))
 
-  pub key-room : Here (keyForm (base .key)) s at → at + 2 ≤ length s
+  pub key-room : Here (keyForm (base .key)) s at → at + lengthSize ≤ length s
   key-room h = open-key (base .key) (h .part) .length-at .inside
 
-  pub key-part : (r : ℕ) (m : Bytes) (e : ℕ) → Ends (keyForm (base .key)) s at r → Part (keyForm (base .key)) s at m e → take (r - (at + 2)) (drop (at + 2) s) ≡ m
-  key-part r m e n p = sym (drop-take (at + 2) r s) ∙ rw (n .is m e p) (open-key (base .key) p .bytes)
+  pub key-part : (r : ℕ) (m : Bytes) (e : ℕ) → Ends (keyForm (base .key)) s at r → Part (keyForm (base .key)) s at m e → take (r - (at + lengthSize)) (drop (at + lengthSize) s) ≡ m
+  key-part r m e n p = sym (drop-take (at + lengthSize) r s) ∙ rw (n .is m e p) (open-key (base .key) p .bytes)
 
   -- a bound
-  pub bound-ends : (r : ℕ) → Here (boundForm (base .key)) s at → Ends (boundForm (base .key)) s at r → (at + 3 ≤ r) × (r ≤ length s)
+  pub bound-ends : (r : ℕ) → Here (boundForm (base .key)) s at → Ends (boundForm (base .key)) s at r → (at + boundKeyAt ≤ r) × (r ≤ length s)
   bound-ends r h n =
       let k = open-key _ (open-bound (base .key) (h .part) .key) in
       let e = n .is (h .val) (h .end) (h .part) in
@@ -51,12 +52,12 @@ module _ (s : List ℕ) (at : ℕ) where
       let k = open-key _ (open-bound (base .key) (h .part) .key) in
       omega (arith, k .ends, k .inside)
 
-  bound-key : (r : ℕ) (b : Bound) (e : ℕ) → Ends (boundForm (base .key)) s at r → Part (boundForm (base .key)) s at b e → take (r - (at + 3)) (drop (at + 3) s) ≡ keyOf b
+  bound-key : (r : ℕ) (b : Bound) (e : ℕ) → Ends (boundForm (base .key)) s at r → Part (boundForm (base .key)) s at b e → take (r - (at + boundKeyAt)) (drop (at + boundKeyAt) s) ≡ keyOf b
   bound-key r b e n p =
-      let from : at + 3 ≡ at + 1 + 2 = omega arith in
-      sym (drop-take (at + 3) r s) ∙ rw (n .is b e p, from) (open-key _ (open-bound (base .key) p .key) .bytes)
+      let from : at + boundKeyAt ≡ at + tagSize + lengthSize = omega arith in
+      sym (drop-take (at + boundKeyAt) r s) ∙ rw (n .is b e p, from) (open-key _ (open-bound (base .key) p .key) .bytes)
 
-pub is-key : (s : List ℕ) (c : Cursor) (r : ℕ) (k : Bytes) (b : Bool) → Ends (keyForm (base .key)) s (c .at) r → b ≡ equal k (take (r - (c .at + 2)) (drop (c .at + 2) s)) → IsKey s c k b
+pub is-key : (s : List ℕ) (c : Cursor) (r : ℕ) (k : Bytes) (b : Bool) → Ends (keyForm (base .key)) s (c .at) r → b ≡ equal k (take (r - (c .at + lengthSize)) (drop (c .at + lengthSize) s)) → IsKey s c k b
 is-key s c r k b n h = record { is = λ m e p. h ∙ ap (equal k) (key-part s (c .at) r m e n p) }
 
 -- the kind of a tag
@@ -87,8 +88,8 @@ module _ (s : List ℕ) (at : ℕ) where
 
   -- both keys lie in the room, behind their tags and lengths
   pub record Spans (m r : ℕ) : Type 0 where
-    pub start : at + 3 ≤ m
-    pub end : m + 3 ≤ r
+    pub start : at + boundKeyAt ≤ m
+    pub end : m + boundKeyAt ≤ r
     pub inside : r ≤ length s
 
   pub spans : (m r : ℕ) → Here (rangeForm (base .key)) s at → Ends (boundForm (base .key)) s at m → Ends (boundForm (base .key)) s m r → Spans m r
@@ -100,7 +101,7 @@ module _ (s : List ℕ) (at : ℕ) where
 module _ (s : List ℕ) (c : Cursor) where
   pub in-range : (m r : ℕ) (k : Bytes) (p : ComparableRange) (ks ke : Kind) (b : Bool) → Ends (boundForm (base .key)) s (c .at) m → Ends (boundForm (base .key)) s m r
       → KindAt s (c .at) ks → KindAt s m ke → (p .start ≡ ks) × (p .end ≡ ke)
-      → b ≡ holds (rangeOf p (take (m - (c .at + 3)) (drop (c .at + 3) s)) (take (r - (m + 3)) (drop (m + 3) s))) k → Holds s c k b
+      → b ≡ holds (rangeOf p (take (m - (c .at + boundKeyAt)) (drop (c .at + boundKeyAt) s)) (take (r - (m + boundKeyAt)) (drop (m + boundKeyAt) s))) k → Holds s c k b
   in-range m r k p ks ke b one two a z f h = record { is = held }
     where
       held : (g : Range) (e : ℕ) → Part (rangeForm (base .key)) s (c .at) g e → b ≡ holds g k

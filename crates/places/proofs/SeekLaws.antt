@@ -15,6 +15,7 @@ use Rattle.keys.proofs.OrderLaws.{less-is}
 use Rattle.keys.proofs.Signs.{on-lt}
 use Rattle.machine.specs.State.{Bytes, Txn, base}
 use Rattle.machine.proofs.ListLaws.{all-append}
+use Rattle.layout.specs.Offsets.{idSize, writesAt}
 use Rattle.moves.proofs.SpliceLaws.{drop-take}
 use Rattle.layout.specs.Records.{txnForm}
 use Rattle.layout.specs.Places.{Rows, Here, Ends}
@@ -27,7 +28,7 @@ use Rattle.places.proofs.SplitLaws.{split-one, Search, Turn, start, ove
 
 -- the sixteen bytes at a place, as a part of the room that is lent
 abbrev pub idAt : List ℕ → ℕ → Bytes
-idAt s e = take (e + 16 - e) (drop e s)
+idAt s e = take (e + idSize - e) (drop e s)
 
 abbrev pub Past : Bytes → List Txn → List Txn → Type 0
 Past id front rest = Passed id front
@@ -47,7 +48,7 @@ seek-end id x h =
           record { front = t .front; back = []; whole = o .0; before = t .walk .before; after = rw (o .1) (t .walk .after .row); passed = t .holds; stops = tt };
     }
 
-pub txn-inside : {s : List ℕ} {e : ℕ} → Here (txnForm (base .key)) s e → e + 24 ≤ length s
+pub txn-inside : {s : List ℕ} {e : ℕ} → Here (txnForm (base .key)) s e → e + writesAt ≤ length s
 txn-inside x = open-txn (base .key) (x .part) .start-at .inside
 
 -- what the tests of a comparison's answer say
@@ -72,7 +73,7 @@ is-more {o} e h k = go o (on-lt o e h) (λ q. k (ap (ofZ w8) e ∙ q))
 
 module _ {s : List ℕ} {at n : ℕ} (id : Bytes) {c : Cursor} (t : Turn (txnForm (base .key)) (Past id) s at n c) where
   id-is : (o : Ordering) → order id (idAt s (c .at)) ≡ o → order id (t .one .id) ≡ o
-  id-is o q = ap (order id) (sym (open-txn (base .key) (t .walk .after .row .first) .id-at) ∙ drop-take (c .at) (c .at + 16) s) ∙ q
+  id-is o q = ap (order id) (sym (open-txn (base .key) (t .walk .after .row .first) .id-at) ∙ drop-take (c .at) (c .at + idSize) s) ∙ q
 
   pub seek-before : order id (idAt s (c .at)) ≡ lt → Found s at n id (Place.Before (c .at))
   seek-before q =

@@ -10,6 +10,7 @@ use Rattle.bounds.specs.Ranges.{Range, holds}
 use Rattle.ranges.specs.Made.{kindOf}
 use Rattle.machine.specs.State.{Bytes, base}
 use Rattle.machine.specs.Sets.{equal}
+use Rattle.layout.specs.Offsets.{countSize}
 use Rattle.codec.specs.Codec.{Codec}
 use Rattle.codec.specs.Formats.{number}
 use Rattle.codec.specs.Places.{Stands}
@@ -21,8 +22,8 @@ abbrev pub past : Cursor → ℕ → Cursor
 past c end = record { at = end; left = c .left - 1 }
 
 pub record CountAt (s : List ℕ) (at : ℕ) (c : Cursor) : Type 0 where
-  pub begins : c .at ≡ at + 2
-  pub counts : Stands (number 2) s at (c .left) (at + 2)
+  pub begins : c .at ≡ at + countSize
+  pub counts : Stands (number countSize) s at (c .left) (at + countSize)
 
 -- the records of xs, and no more, are left
 pub record Before {A : Type 0} (C : Codec A) (s : List ℕ) (c : Cursor) (xs : List A) : Type 0 where

@@ -3,6 +3,7 @@ ghost use mathlib.Core.Path.{_≡_};
 ghost use Prim.Native.Nat.{_+_, _<_, _≤_};
 ghost use lib.ListN.{length};
 ghost use Rattle.machine.specs.State.{base};
+ghost use Rattle.layout.specs.Offsets.{countSize};
 ghost use Rattle.layout.specs.Keys.{keyForm, boundForm, rangeForm};
 ghost use Rattle.layout.specs.Places.{Here};
 ghost use Rattle.places.specs.Cursors.{past, CountAt, KindAt, IsKey, Holds};
@@ -13,6 +14,9 @@ use codec::numbers::read_two;
 use fields::INCLUDED;
 use fields::UNBOUNDED;
 use kinds::kind::Kind;
+use layout::BOUND;
+use layout::COUNT;
+use layout::LENGTH;
 
 // Where the first of the records that are left stands, and how many they are.
 pub struct Cursor {
@@ -29,11 +33,14 @@ impl Cursor {
 
     // Before the records of the list at a place: they stand behind its count.
     pub fn of_list(room: &[u8], at: usize) -> Self
-        requires { ⌜ at + 2 ≤ length (now room) ⌝ }
+        requires { ⌜ at + countSize ≤ length (now room) ⌝ }
         ensures { λ r. ⌜ CountAt (now (room .entry)) at r ⌝ }
     {
         let left = read_two(room, at);
-        Cursor { at: at + 2, left }
+        Cursor {
+            at: at + COUNT,
+            left,
+        }
     }
 
     // Past the first record, whose end the caller knows.
@@ -52,7 +59,7 @@ impl Cursor {
         requires { ⌜ Here (keyForm (base .key)) (now room) (self .at) ⌝ }
         ensures { λ r. ⌜ IsKey (now (room .entry)) self (now (key .entry)) r ⌝ }
     {
-        let from = self.at + 2;
+        let from = self.at + LENGTH;
         let to = key_past(room, self.at);
         keys::equal(key, &room[from..to])
     }
@@ -67,8 +74,8 @@ impl Cursor {
         let start = kind_at(room, self.at);
         let end = kind_at(room, middle);
         let range = ComparableRange::new(start, end);
-        let start_key = self.at + 3;
-        let end_key = middle + 3;
+        let start_key = self.at + BOUND;
+        let end_key = middle + BOUND;
         range.contains(&room[start_key..middle], &room[end_key..to], key)
     }
 }

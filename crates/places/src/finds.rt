@@ -1,11 +1,11 @@
 // Looking through the active transactions of a room.
 use crate::cursor::Cursor;
 use crate::skips::txn_past;
+use codec::numbers::lesser;
 use codec::numbers::read_eight;
 use keys::compare;
 use layout::ID;
-ghost use mathlib.Core.Path.{_≡_};
-ghost use Prim.Native.Nat.{min};
+use layout::START;
 ghost use Rattle.machine.specs.State.{base};
 ghost use Rattle.layout.specs.Records.{txnForm};
 ghost use Rattle.layout.specs.Places.{Rows};
@@ -39,12 +39,6 @@ pub fn find_txn(room: &[u8], at: usize, n: usize, id: &[u8]) -> Place
     Place::Before(c.at)
 }
 
-fn lesser(a: u64, b: u64) -> u64
-    ensures { λ r. ⌜ r ≡ min a b ⌝ }
-{
-    if a < b { a } else { b }
-}
-
 // The least of `most` and the starts of the n transactions from a place on.
 pub fn least_start(room: &[u8], at: usize, n: usize, most: u64) -> u64
     requires { ⌜ Rows (txnForm (base .key)) (now room) at n ⌝ }
@@ -53,7 +47,7 @@ pub fn least_start(room: &[u8], at: usize, n: usize, most: u64) -> u64
     let mut c = Cursor::new(at, n);
     let mut low = most;
     while 0 < c.left {
-        low = lesser(low, read_eight(room, c.at + ID));
+        low = lesser(low, read_eight(room, c.at + START));
         c = c.past(txn_past(room, c.at));
     }
     low

@@ -1,6 +1,10 @@
 // Where the record at a place ends.
 use crate::cursor::Cursor;
 use codec::numbers::read_two;
+use layout::BOUND;
+use layout::KEYS;
+use layout::LENGTH;
+use layout::TAG;
 use layout::WRITES;
 ghost use Prim.Native.Nat.{_+_};
 ghost use Rattle.machine.specs.State.{base};
@@ -12,7 +16,7 @@ pub fn key_past(room: &[u8], at: usize) -> usize
     requires { ⌜ Here (keyForm (base .key)) (now room) at ⌝ }
     ensures { λ r. ⌜ Ends (keyForm (base .key)) (now (room .entry)) at r ⌝ }
 {
-    at + 2 + read_two(room, at)
+    at + LENGTH + read_two(room, at)
 }
 
 pub fn set_past(room: &[u8], at: usize) -> usize
@@ -30,7 +34,7 @@ pub fn bound_past(room: &[u8], at: usize) -> usize
     requires { ⌜ Here (boundForm (base .key)) (now room) at ⌝ }
     ensures { λ r. ⌜ Ends (boundForm (base .key)) (now (room .entry)) at r ⌝ }
 {
-    at + 3 + read_two(room, at + 1)
+    at + BOUND + read_two(room, at + TAG)
 }
 
 pub fn range_past(room: &[u8], at: usize) -> usize
@@ -55,7 +59,7 @@ pub fn entry_past(room: &[u8], at: usize) -> usize
     requires { ⌜ Here (entryForm (base .key)) (now room) at ⌝ }
     ensures { λ r. ⌜ Ends (entryForm (base .key)) (now (room .entry)) at r ⌝ }
 {
-    set_past(room, at + 8)
+    set_past(room, at + KEYS)
 }
 
 pub fn txn_past(room: &[u8], at: usize) -> usize

@@ -10,6 +10,7 @@ use lib.Seq.{length-take-le}
 use Rattle.kinds.specs.Bounds.{included, excluded, bound}
 use Rattle.kinds.specs.declared.kind.Kind.{Kind}
 use Rattle.kinds.specs.declared.kind.Kind.the-variants.{Unbounded, Included, Excluded}
+use Rattle.fields.specs.Fields.{boundTag}
 use Rattle.bounds.specs.declared.comparable_range.ComparableRange.{ComparableRange}
 use Rattle.bounds.specs.Ranges.{Range, range, rangeOf, notEmpty, notEmptyPair}
 use Rattle.machine.specs.State.{Bytes, rangeBytes}
@@ -37,22 +38,22 @@ module _ (limit : ℕ) (s : List ℕ) (at : ℕ) where
   tag-stands : (tag : ℕ) → at + tagSize ≤ length s → ((i : ℕ) → getD s i 0 < 256) → getD s at 0 ≡ tag → Stands (number tagSize) s at tag (at + tagSize)
   tag-stands tag h small e = stands-number tagSize s at tag h small (sym e)
 
-  pub tag-unknown : (tag : ℕ) → at + tagSize ≤ length s → ((i : ℕ) → getD s i 0 < 256) → getD s at 0 ≡ tag → (tag ≡ 0x10 → ⊥) → (tag ≡ 0x11 → ⊥) → (tag ≡ 0x12 → ⊥) → Missing (boundForm limit) s at
+  pub tag-unknown : (tag : ℕ) → at + tagSize ≤ length s → ((i : ℕ) → getD s i 0 < 256) → getD s at 0 ≡ tag → (tag ≡ (boundTag Unbounded) → ⊥) → (tag ≡ (boundTag Included) → ⊥) → (tag ≡ (boundTag Excluded) → ⊥) → Missing (boundForm limit) s at
   unfolding boundForm via bind only
-  tag-unknown tag h small e a b c = record { reads = rw (tag-stands tag h small e .reads, ne-eqb tag 0x10 a, ne-eqb tag 0x11 b, ne-eqb tag 0x12 c) }
+  tag-unknown tag h small e a b c = record { reads = rw (tag-stands tag h small e .reads, ne-eqb tag (boundTag Unbounded) a, ne-eqb tag (boundTag Included) b, ne-eqb tag (boundTag Excluded) c) }
 
   -- the bound of a kind whose key was walked
   module _ (h : at + tagSize ≤ length s) (small : (i : ℕ) → getD s i 0 < 256) where
-    pub unbounded-ends : getD s at 0 ≡ 0x10 → (w : Walked) → Walks (aKey 0) s (at + tagSize) w → BoundIs limit s at (asBound Unbounded w)
+    pub unbounded-ends : getD s at 0 ≡ (boundTag Unbounded) → (w : Walked) → Walks (aKey 0) s (at + tagSize) w → BoundIs limit s at (asBound Unbounded w)
     unfolding boundForm via bind only
     unbounded-ends e (Ends t) g =
         let z = key-size (g .part) in
         record {
-          part = record { stands = record { reads = rw (tag-stands 0x10 h small e .reads, g .part .stands .reads) }; from = omega (arith, g .part .from); inside = g .part .inside };
+          part = record { stands = record { reads = rw (tag-stands (boundTag Unbounded) h small e .reads, g .part .stands .reads) }; from = omega (arith, g .part .from); inside = g .part .inside };
           far = omega (arith, z .0);
           size = omega (arith, z .0, z .1);
         }
-    unbounded-ends e Cut m = record { reads = rw (tag-stands 0x10 h small e .reads, m .reads) }
+    unbounded-ends e Cut m = record { reads = rw (tag-stands (boundTag Unbounded) h small e .reads, m .reads) }
 
     module _ {t : Tally} (g : Got (aKey limit) s (at + tagSize) t) where
       key-is : g .val ≡ between s (at + boundKeyAt) (t .end)
@@ -66,31 +67,31 @@ module _ (limit : ℕ) (s : List ℕ) (at : ℕ) where
           let i : t .end ≤ length s = g .part .inside in
           (f, length-take-le (t .end - (at + boundKeyAt)) (drop (at + boundKeyAt) s) (rw (length-drop (at + boundKeyAt) s) (omega arith)))
 
-    pub included-ends : getD s at 0 ≡ 0x11 → (w : Walked) → Walks (aKey limit) s (at + tagSize) w → BoundIs limit s at (asBound Included w)
+    pub included-ends : getD s at 0 ≡ (boundTag Included) → (w : Walked) → Walks (aKey limit) s (at + tagSize) w → BoundIs limit s at (asBound Included w)
     unfolding boundForm via bind only
     included-ends e (Ends t) g = record {
       part = record {
-        stands = record { reads = rw (tag-stands 0x11 h small e .reads, g .part .stands .reads) (ap (λ (k : Bytes). item (included k) (drop (t .end) s)) (key-is g)) };
+        stands = record { reads = rw (tag-stands (boundTag Included) h small e .reads, g .part .stands .reads) (ap (λ (k : Bytes). item (included k) (drop (t .end) s)) (key-is g)) };
         from = omega (arith, g .part .from);
         inside = g .part .inside;
       };
       far = key-ends g .0;
       size = key-ends g .1;
     }
-    included-ends e Cut m = record { reads = rw (tag-stands 0x11 h small e .reads, m .reads) }
+    included-ends e Cut m = record { reads = rw (tag-stands (boundTag Included) h small e .reads, m .reads) }
 
-    pub excluded-ends : getD s at 0 ≡ 0x12 → (w : Walked) → Walks (aKey limit) s (at + tagSize) w → BoundIs limit s at (asBound Excluded w)
+    pub excluded-ends : getD s at 0 ≡ (boundTag Excluded) → (w : Walked) → Walks (aKey limit) s (at + tagSize) w → BoundIs limit s at (asBound Excluded w)
     unfolding boundForm via bind only
     excluded-ends e (Ends t) g = record {
       part = record {
-        stands = record { reads = rw (tag-stands 0x12 h small e .reads, g .part .stands .reads) (ap (λ (k : Bytes). item (excluded k) (drop (t .end) s)) (key-is g)) };
+        stands = record { reads = rw (tag-stands (boundTag Excluded) h small e .reads, g .part .stands .reads) (ap (λ (k : Bytes). item (excluded k) (drop (t .end) s)) (key-is g)) };
         from = omega (arith, g .part .from);
         inside = g .part .inside;
       };
       far = key-ends g .0;
       size = key-ends g .1;
     }
-    excluded-ends e Cut m = record { reads = rw (tag-stands 0x12 h small e .reads, m .reads) }
+    excluded-ends e Cut m = record { reads = rw (tag-stands (boundTag Excluded) h small e .reads, m .reads) }
 
 -- ---- ranges
 

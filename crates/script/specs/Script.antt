@@ -9,6 +9,7 @@ use lib.ListN.{length, take, drop}
 use Rattle.codec.specs.Codec.{Item, item, cut}
 use Rattle.codec.specs.Formats.{number}
 use Rattle.machine.specs.declared.Which.the-variants.{Writes, Reads}
+use Rattle.machine.specs.State.{idSize}
 use Rattle.machine.specs.Calls.{Op, begin, trackKeys, trackRange, check, commit, batch, dropTxn, minimum, Call, on}
 
 -- what a number and the bytes that follow it make, if there is one
@@ -22,7 +23,7 @@ whenEmpty op (b ∷ bs) = none
 
 -- "06 commit (id, sequence of eight big-endian bytes)"
 abbrev pub commitOf : List ℕ → Option Op
-commitOf p = withNumber (number 8 .read (drop 16 p)) λ n rest. whenEmpty (commit (take 16 p) n) rest
+commitOf p = withNumber (number 8 .read (drop idSize p)) λ n rest. whenEmpty (commit (take idSize p) n) rest
 
 -- "07 batch (sequence, list)"
 abbrev pub batchOf : List ℕ → Option Op
@@ -34,9 +35,9 @@ batchOf p = withNumber (number 8 .read p) λ n list. some (batch n list)
 abbrev pub callOf : ℕ → List ℕ → Option Op
 callOf tag p =
     cond (eqb tag 0x01) (some (begin p))
-    (cond (eqb tag 0x02) (some (trackKeys Writes (take 16 p) (drop 16 p)))
-    (cond (eqb tag 0x03) (some (trackKeys Reads (take 16 p) (drop 16 p)))
-    (cond (eqb tag 0x04) (some (trackRange (take 16 p) (drop 16 p)))
+    (cond (eqb tag 0x02) (some (trackKeys Writes (take idSize p) (drop idSize p)))
+    (cond (eqb tag 0x03) (some (trackKeys Reads (take idSize p) (drop idSize p)))
+    (cond (eqb tag 0x04) (some (trackRange (take idSize p) (drop idSize p)))
     (cond (eqb tag 0x05) (some (check p))
     (cond (eqb tag 0x06) (commitOf p)
     (cond (eqb tag 0x07) (batchOf p)
@@ -58,5 +59,5 @@ called tag p = asCall (callOf tag p)
 -- where a payload's id ends, if it has one
 pub record IdEnds (p : List ℕ) (r : ℕ) : Type 0 where
   pub inside : r ≤ length p
-  pub id : take 16 p ≡ take r p
-  pub rest : drop 16 p ≡ drop r p
+  pub id : take idSize p ≡ take r p
+  pub rest : drop idSize p ≡ drop r p

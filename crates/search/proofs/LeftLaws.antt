@@ -7,6 +7,7 @@ use native.Mathlib.Omega.{arith}
 use lib.ListN.{length, length-append}
 use Rattle.bounds.specs.Ranges.{Range}
 use Rattle.machine.specs.State.{Bytes, Txn, base}
+use Rattle.layout.specs.Offsets.{countSize, writesAt}
 use Rattle.codec.specs.Codec.{Codec}
 use Rattle.layout.specs.Keys.{keyForm, setForm, rangeForm, rangesForm, below, anyOrder}
 use Rattle.layout.specs.Records.{txnForm}
@@ -104,19 +105,19 @@ left-count s c ms l =
 
 -- the marks of a transaction where it stands
 module _ (s : List ℕ) (txn : ℕ) where
-  pub writes-here : Here (txnForm (base .key)) s txn → Here (setForm (base .key)) s (txn + 24)
+  pub writes-here : Here (txnForm (base .key)) s txn → Here (setForm (base .key)) s (txn + writesAt)
   writes-here h = let o = open-txn (base .key) (h .part) in record { val = h .val .writes; end = o .writes-end; part = o .writes }
 
-  pub reads-here : (a : ℕ) → Here (txnForm (base .key)) s txn → Ends (setForm (base .key)) s (txn + 24) a → Here (setForm (base .key)) s a
+  pub reads-here : (a : ℕ) → Here (txnForm (base .key)) s txn → Ends (setForm (base .key)) s (txn + writesAt) a → Here (setForm (base .key)) s a
   reads-here a h n = let o = open-txn (base .key) (h .part) in record { val = h .val .reads; end = o .reads-end; part = rw (n .is _ _ (o .writes)) (o .reads) }
 
-  pub ranges-here : (a b : ℕ) → Here (txnForm (base .key)) s txn → Ends (setForm (base .key)) s (txn + 24) a → Ends (setForm (base .key)) s a b → Here (rangesForm (base .key)) s b
+  pub ranges-here : (a b : ℕ) → Here (txnForm (base .key)) s txn → Ends (setForm (base .key)) s (txn + writesAt) a → Ends (setForm (base .key)) s a b → Here (rangesForm (base .key)) s b
   ranges-here a b h n k =
       let o = open-txn (base .key) (h .part) in
       let r : Part (setForm (base .key)) s a (h .val .reads) (o .reads-end) = rw (n .is _ _ (o .writes)) (o .reads) in
       record { val = h .val .ranges; end = h .end; part = rw (k .is _ _ r) (o .ranges) }
 
-  pub marks-at : (a b : ℕ) (w r g : Cursor) → Ends (setForm (base .key)) s (txn + 24) a → Ends (setForm (base .key)) s a b → CountAt s (txn + 24) w → CountAt s a r → CountAt s b g
+  pub marks-at : (a b : ℕ) (w r g : Cursor) → Ends (setForm (base .key)) s (txn + writesAt) a → Ends (setForm (base .key)) s a b → CountAt s (txn + writesAt) w → CountAt s a r → CountAt s b g
       → MarksAt s txn (record { writes = w; reads = r; ranges = g })
   marks-at a b w r g n k x y z = record { is = left }
     where
@@ -135,8 +136,8 @@ module _ (s : List ℕ) (txn : ℕ) where
             all = refl;
           }
 
-pub set-room : {s : List ℕ} {at : ℕ} → Here (setForm (base .key)) s at → at + 2 ≤ length s
+pub set-room : {s : List ℕ} {at : ℕ} → Here (setForm (base .key)) s at → at + countSize ≤ length s
 set-room h = open-set (base .key) (h .part) .count-at .inside
 
-pub ranges-room : {s : List ℕ} {at : ℕ} → Here (rangesForm (base .key)) s at → at + 2 ≤ length s
+pub ranges-room : {s : List ℕ} {at : ℕ} → Here (rangesForm (base .key)) s at → at + countSize ≤ length s
 ranges-room h = open-ranges (base .key) (h .part) .count-at .inside

@@ -11,6 +11,7 @@ use lib.ListN.{length, take, drop}
 use Rattle.machine.specs.Lists.{any}
 use Rattle.machine.specs.State.{Bytes, Txn, Entry, base}
 use Rattle.machine.specs.Sets.{tracks, conflict}
+use Rattle.layout.specs.Offsets.{numberSize, countSize, lengthSize, keysAt, startAt, writesAt}
 use Rattle.codec.specs.Formats.{number}
 use Rattle.codec.specs.Places.{Stands}
 use Rattle.layout.specs.Keys.{keyForm, below}
@@ -44,10 +45,10 @@ module _ (s : List ℕ) (txn : ℕ) where
     pub is : (t : Txn) (f : ℕ) (x : Entry) (g : ℕ) → Part (txnForm (base .key)) s txn t f → Part (entryForm (base .key)) s at x g
         → Walk (Before (keyForm (base .key)) s c) (tracks t) (any (tracks t) (x .keys))
 
-pub txn-room : {s : List ℕ} {txn : ℕ} → Here (txnForm (base .key)) s txn → txn + 24 ≤ length s
+pub txn-room : {s : List ℕ} {txn : ℕ} → Here (txnForm (base .key)) s txn → txn + writesAt ≤ length s
 txn-room h = open-txn (base .key) (h .part) .start-at .inside
 
-pub entry-room : {s : List ℕ} {at : ℕ} → Here (entryForm (base .key)) s at → at + 8 + 2 ≤ length s
+pub entry-room : {s : List ℕ} {at : ℕ} → Here (entryForm (base .key)) s at → at + keysAt + countSize ≤ length s
 entry-room h = open-set (base .key) (open-entry (base .key) (h .part) .set) .count-at .inside
 
 -- ---------------------------------------------------------------- marks
@@ -69,7 +70,7 @@ module _ (s : List ℕ) (txn at : ℕ) (m : Marks) where
   pub marks-none : MarksWalk s txn at m → eqb (marksLeft m) 0 ≡ true → Tracks s txn at false
   marks-none w h = record { is = λ t f k g p q. let x = w .is t f k g p q in walk-over x (omega (arith, left-count s m (x .rest) (x .here), eqb-true (marksLeft m) 0 h)) }
 
-  module _ (to : ℕ) (r : Bool) (n : Ends (keyForm (base .key)) s at to) (z : Meets s m (take (to - (at + 2)) (drop (at + 2) s)) r) (h : eqb (marksLeft m) 0 ≡ false) where
+  module _ (to : ℕ) (r : Bool) (n : Ends (keyForm (base .key)) s at to) (z : Meets s m (take (to - (at + lengthSize)) (drop (at + lengthSize) s)) r) (h : eqb (marksLeft m) 0 ≡ false) where
     met : (k : Bytes) (g : ℕ) → Part (keyForm (base .key)) s at k g → (x : Mark) (xs : List Mark) → Left s m (x ∷ xs) → meets k x ≡ r
     met k g q x xs l = sym (z .is x xs l ∙ ap (λ (y : Bytes). meets y x) (key-part s at to k g n q))
 
@@ -90,11 +91,11 @@ next-less s m d w j = omega (arith, left-count s m (w .first ∷ w .rest) (w .le
 -- ---------------------------------------------------------------- keys
 
 module _ (s : List ℕ) (txn at : ℕ) (c : Cursor) where
-  pub keys-start : CountAt s (at + 8) c → KeysWalk s txn at c
+  pub keys-start : CountAt s (at + keysAt) c → KeysWalk s txn at c
   keys-start n =
       record {
         is = λ t f x g p q.
-            record { rest = x .keys; here = before-list (keyForm (base .key)) s c below (at + 8) (x .keys) g (open-set (base .key) (open-entry (base .key) q .set)) n; says = refl };
+            record { rest = x .keys; here = before-list (keyForm (base .key)) s c below (at + keysAt) (x .keys) g (open-set (base .key) (open-entry (base .key) q .set)) n; says = refl };
       }
 
   pub keys-here : KeysWalk s txn at c → Here (txnForm (base .key)) s txn → Here (entryForm (base .key)) s at → 0 < c .left → Here (keyForm (base .key)) s (c .at)
@@ -136,9 +137,9 @@ module _ (s : List ℕ) (at entries txn : ℕ) where
     entries-none h = record { is = λ es e t f r n p. sym (cursor-over (w .is es e t f r n p) h) }
 
     -- the start and the sequence as they were read
-    module _ (start seq f g : ℕ) (a : Stands (number 8) s (txn + 16) start f) (b : Stands (number 8) s (c .at) seq g) (h : 0 < c .left) where
+    module _ (start seq f g : ℕ) (a : Stands (number numberSize) s (txn + startAt) start f) (b : Stands (number numberSize) s (c .at) seq g) (h : 0 < c .left) where
       later : (t : Txn) (e : ℕ) (x : Entry) (e' : ℕ) → Part (txnForm (base .key)) s txn t e → Part (entryForm (base .key)) s (c .at) x e' → ltb (t .start) (x .seq) ≡ ltb start seq
-      later t e x e' p q = sym (ap₂ ltb (number-read-is 8 (open-txn (base .key) p .start-at) a) (number-read-is 8 (open-entry (base .key) q .seq-at) b))
+      later t e x e' p q = sym (ap₂ ltb (number-read-is numberSize (open-txn (base .key) p .start-at) a) (number-read-is numberSize (open-entry (base .key) q .seq-at) b))
 
       pub entries-hit : start < seq → Wrote s txn (c .at) true → Searched s at entries txn true
       entries-hit l e =

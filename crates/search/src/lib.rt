@@ -5,7 +5,9 @@ ghost use Rattle.layout.specs.Places.{Here, Rows};
 ghost use Rattle.search.specs.Search.{Searched};
 use crate::marks::Marks;
 use codec::numbers::read_eight;
-use layout::ID;
+use layout::KEYS;
+use layout::LENGTH;
+use layout::START;
 use places::cursor::Cursor;
 use places::skips::entry_past;
 use places::skips::key_past;
@@ -18,15 +20,15 @@ pub fn conflicts(room: &[u8], at: usize, entries: usize, txn: usize) -> bool
     requires { ⌜ Here (txnForm (base .key)) (now room) txn ⌝ }
     ensures { λ r. ⌜ Searched (now (room .entry)) at entries txn r ⌝ }
 {
-    let start = read_eight(room, txn + ID);
+    let start = read_eight(room, txn + START);
     let marks = Marks::of(room, txn);
     let mut found = false;
     let mut e = Cursor::new(at, entries);
     'search: while 0 < e.left {
         if start < read_eight(room, e.at) {
-            let mut k = Cursor::of_list(room, e.at + 8);
+            let mut k = Cursor::of_list(room, e.at + KEYS);
             while 0 < k.left {
-                let from = k.at + 2;
+                let from = k.at + LENGTH;
                 let to = key_past(room, k.at);
                 let mut m = marks;
                 while !m.is_over() {

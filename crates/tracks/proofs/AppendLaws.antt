@@ -4,6 +4,7 @@ use mathlib.Core.Path.{_≡_, ap, _∙_}
 use lib.ListN.{length}
 use lib.Seq.{paste}
 use Rattle.machine.specs.State.{Bytes, Txn, base}
+use Rattle.layout.specs.Offsets.{countSize, writesAt}
 use Rattle.codec.specs.Formats.{number}
 use Rattle.codec.specs.Places.{Stands}
 use Rattle.codec.proofs.NumberLaws.{number-below}
@@ -22,7 +23,7 @@ module _ {s bounds : Bytes} {used txn end : ℕ} (g : Appendable s used txn end 
   pub txn-stands : Here (txnForm (base .key)) s txn
   txn-stands = record { val = g .one; end = end; part = g .part }
 
-  module _ {m : ℕ} (x : Ends (setForm (base .key)) s (txn + 24) m) where
+  module _ {m : ℕ} (x : Ends (setForm (base .key)) s (txn + writesAt) m) where
     reads-part : Part (setForm (base .key)) s m (g .one .reads) (opened .reads-end)
     reads-part = rw (x .is (g .one .writes) (opened .writes-end) (opened .writes)) (opened .reads)
 
@@ -33,18 +34,18 @@ module _ {s bounds : Bytes} {used txn end : ℕ} (g : Appendable s used txn end 
       ranges-part : Part (rangesForm (base .key)) s at (g .one .ranges) end
       ranges-part = rw (y .is (g .one .reads) (opened .reads-end) reads-part) (opened .ranges)
 
-      pub count-inside : at + 2 ≤ length s
+      pub count-inside : at + countSize ≤ length s
       count-inside = open-ranges (base .key) ranges-part .count-at .inside
 
-      module _ {n : ℕ} (q : Stands (number 2) s at n (at + 2)) where
+      module _ {n : ℕ} (q : Stands (number countSize) s at n (at + countSize)) where
         pub few-ranges : n < 65536
-        few-ranges = number-below 2 q
+        few-ranges = number-below countSize q
 
-        pub appended : {longer s' : Bytes} → Spliced s used end 0 bounds longer → s' ≡ paste longer at (number 2 .write (n + 1)) 2 → Appended s used txn end bounds s'
+        pub appended : {longer s' : Bytes} → Spliced s used end 0 bounds longer → s' ≡ paste longer at (number countSize .write (n + 1)) countSize → Appended s used txn end bounds s'
         appended {longer} {s'} w e = record { is = λ t p. of t (part-one (txnForm (base .key)) (g .part) p .0) }
           where
             count-is : n ≡ length (g .one .ranges)
-            count-is = number-read-is 2 (open-ranges (base .key) ranges-part .count-at) q
+            count-is = number-read-is countSize (open-ranges (base .key) ranges-part .count-at) q
 
             of : (t : Txn) → g .one ≡ t → AppendedTo s used end bounds s' t
             of t i =
@@ -54,5 +55,5 @@ module _ {s bounds : Bytes} {used txn end : ℕ} (g : Appendable s used txn end 
                   ranges = ranges-part;
                   longer = longer;
                   spliced = w;
-                  counted = e ∙ ap (λ (k : ℕ). paste longer at (number 2 .write (k + 1)) 2) count-is;
+                  counted = e ∙ ap (λ (k : ℕ). paste longer at (number countSize .write (k + 1)) countSize) count-is;
                 })

@@ -13,6 +13,7 @@ use Rattle.bounds.specs.Ranges.{Range, range}
 use Rattle.ranges.specs.Bytes.{Bytes}
 use Rattle.ranges.specs.Made.{keyOf, kindOf}
 use Rattle.fields.specs.Fields.{Field, before, onSome, each, fields, encode, fieldsAs, asBound, pairOf, boundsOf, Writable, AllWritable}
+use Rattle.kinds.specs.declared.kind.Kind.the-variants.{Unbounded, Included, Excluded}
 use Rattle.fields.specs.Forms.{boundTag}
 use Rattle.fields.proofs.Writing.{written-read, read-writable}
 use Rattle.codec.specs.Codec.{writeNumber}
@@ -27,7 +28,7 @@ all-bytes (x ∷ bs) h = (h 0, all-bytes bs (λ i. h (suc i)))
 -- the tag and the payload of a field that is read as a bound
 as-bound : (f : Field) (b : Bound) → asBound f ≡ some b → (f .tag ≡ boundTag (kindOf b)) × (f .payload ≡ keyOf b)
 unfolding asBound
-as-bound f b e = go (eqb (f .tag) 0x10) refl (eqb (f .tag) 0x11) refl (eqb (f .tag) 0x12) refl (eqb (length (f .payload)) 0) refl e
+as-bound f b e = go (eqb (f .tag) (boundTag Unbounded)) refl (eqb (f .tag) (boundTag Included)) refl (eqb (f .tag) (boundTag Excluded)) refl (eqb (length (f .payload)) 0) refl e
   where
     no-bytes : (p : List ℕ) → length p ≡ 0 → p ≡ []
     no-bytes [] h = refl
@@ -36,7 +37,7 @@ as-bound f b e = go (eqb (f .tag) 0x10) refl (eqb (f .tag) 0x11) refl (eqb (f .t
     is : (c : Bound) → some c ≡ some b → (f .tag ≡ boundTag (kindOf c)) × (f .payload ≡ keyOf c) → (f .tag ≡ boundTag (kindOf b)) × (f .payload ≡ keyOf b)
     is c q x = rw (Option·some-injective c b q) at x
 
-    go : (x : Bool) → eqb (f .tag) 0x10 ≡ x → (y : Bool) → eqb (f .tag) 0x11 ≡ y → (z : Bool) → eqb (f .tag) 0x12 ≡ z → (n : Bool) → eqb (length (f .payload)) 0 ≡ n
+    go : (x : Bool) → eqb (f .tag) (boundTag Unbounded) ≡ x → (y : Bool) → eqb (f .tag) (boundTag Included) ≡ y → (z : Bool) → eqb (f .tag) (boundTag Excluded) ≡ z → (n : Bool) → eqb (length (f .payload)) 0 ≡ n
         → cond x (cond n (some unbounded) none) (cond y (some (included (f .payload))) (cond z (some (excluded (f .payload))) none)) ≡ some b → (f .tag ≡ boundTag (kindOf b)) × (f .payload ≡ keyOf b)
     go true hx y hy z hz true hn q = is unbounded q (eqb-true _ _ hx, no-bytes (f .payload) (eqb-true _ _ hn))
     go true hx y hy z hz false hn q = absurd (Option·none-ne-some b q)

@@ -10,6 +10,7 @@ use lib.IntN.{pos}
 use Rattle.keys.specs.Order.{order}
 use Rattle.machine.specs.State.{Bytes, base}
 use Rattle.machine.specs.Sets.{insert, stands}
+use Rattle.layout.specs.Offsets.{lengthSize}
 use Rattle.moves.proofs.SpliceLaws.{drop-take}
 use Rattle.layout.specs.Places.{Part, Row, Rows, Here, Ends}
 use Rattle.layout.proofs.RowLaws.{row-one, row-join}
@@ -84,22 +85,22 @@ module _ {d : Bytes} {count : ℕ} {key : Bytes} {at left : ℕ} (v : Seek d cou
       next-is : next ≡ here .next
       next-is = n .is (here .key) (here .next) (here .part)
 
-      pub next-inside : (at + 2 ≤ next) × (next ≤ length d)
+      pub next-inside : (at + lengthSize ≤ next) × (next ≤ length d)
       next-inside = let o = open-key (base .key) (here .part) in (omega (arith, next-is, o .ends), omega (arith, next-is, o .inside))
 
-      insert-now : (o : Ordering) → order key (part d (at + 2) next) ≡ o → insert key (v .rest) ≡ stands o (key ∷ v .rest) (v .rest) (here .key ∷ insert key (here .more))
+      insert-now : (o : Ordering) → order key (part d (at + lengthSize) next) ≡ o → insert key (v .rest) ≡ stands o (key ∷ v .rest) (v .rest) (here .key ∷ insert key (here .more))
       insert-now o e =
-          let k : part d (at + 2) next ≡ here .key = sym (drop-take (at + 2) next d) ∙ ap (λ (x : ℕ). slice (at + 2) x d) next-is ∙ open-key (base .key) (here .part) .bytes in
+          let k : part d (at + lengthSize) next ≡ here .key = sym (drop-take (at + lengthSize) next d) ∙ ap (λ (x : ℕ). slice (at + lengthSize) x d) next-is ∙ open-key (base .key) (here .part) .bytes in
           let f : order key (here .key) ≡ o = ap (order key) (sym k) ∙ e in
           insert-first key (here .key) (v .rest) (here .more) o (here .is) f
 
-      pub seek-before : order key (part d (at + 2) next) ≡ lt → FoundIs d count key (Found.Before at)
+      pub seek-before : order key (part d (at + lengthSize) next) ≡ lt → FoundIs d count key (Found.Before at)
       seek-before e = found-before (insert-now lt e)
 
-      pub seek-there : order key (part d (at + 2) next) ≡ eq → FoundIs d count key Found.There
+      pub seek-there : order key (part d (at + lengthSize) next) ≡ eq → FoundIs d count key Found.There
       seek-there e = record { is = for-every (λ ks e. insert key ks ≡ ks) (v .same ∙ ap (λ (l : List Bytes). v .less ++ l) (insert-now eq e)) }
 
-      pub seek-next : order key (part d (at + 2) next) ≡ gt → Seek d count key next (left - 1)
+      pub seek-next : order key (part d (at + lengthSize) next) ≡ gt → Seek d count key next (left - 1)
       seek-next e =
           let k : Bytes = here .key in
           let w : v .less ++ v .rest ≡ (v .less ++ (k ∷ [])) ++ here .more = ap (λ (l : List Bytes). v .less ++ l) (here .is) ∙ sym (append-assoc (v .less) (k ∷ []) (here .more)) in

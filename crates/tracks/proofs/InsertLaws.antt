@@ -16,6 +16,7 @@ use Rattle.fields.proofs.Lists.{list-nil}
 use Rattle.machine.specs.State.{Bytes, base, setBytes}
 use Rattle.machine.specs.Sets.{insert, insertAll}
 use Rattle.machine.proofs.SetLaws.{insertAll-longer, insertAll-bytes}
+use Rattle.layout.specs.Offsets.{lengthSize}
 use Rattle.moves.specs.Splices.{Spliced, usedAfter}
 use Rattle.moves.proofs.SpliceLaws.{drop-take}
 use Rattle.layout.specs.Places.{Row, Rows}
@@ -159,19 +160,19 @@ module _ {d₀ : Bytes} {used n : ℕ} {list : Bytes} {marks bytes : ℕ} {d : B
           }
 
       module _ (m : marks' ≡ 0 → ⊥) (b : to - from ≤ bytes') where
-        pub fits : end + (2 + (to - from)) ≤ length d
+        pub fits : end + (lengthSize + (to - from)) ≤ length d
         fits = omega (arith, v .rest .space, m)
 
-        pub can-splice : (place + 0 ≤ end) × (end ≤ length d) × (usedAfter end 0 (part list (from - 2) to) ≤ length d)
+        pub can-splice : (place + 0 ≤ end) × (end ≤ length d) × (usedAfter end 0 (part list (from - lengthSize) to) ≤ length d)
         can-splice =
             let p = row-inside Key d place (where-now .more) end (where-now .after) in
-            (omega (arith, p .0), p .1, omega (arith, fits, key-length list (from - 2) to (i .within), i .begins, i .ends))
+            (omega (arith, p .0), p .1, omega (arith, fits, key-length list (from - lengthSize) to (i .within), i .begins, i .ends))
 
-        pub add-put : {d' : Bytes} → ((j : ℕ) → getD list j 0 < 256) → Spliced d end place 0 (part list (from - 2) to) d'
-            → Adding d₀ used n list marks bytes d' (end + (2 + (to - from))) (held + 1) (marks' - 1) (bytes' - (to - from)) to
+        pub add-put : {d' : Bytes} → ((j : ℕ) → getD list j 0 < 256) → Spliced d end place 0 (part list (from - lengthSize) to) d'
+            → Adding d₀ used n list marks bytes d' (end + (lengthSize + (to - from))) (held + 1) (marks' - 1) (bytes' - (to - from)) to
         add-put {d'} tiny w =
             let k : Bytes = part list from to in
-            let l : end + length (Key .write k) ≡ end + (2 + (to - from)) = omega (arith, record-length (base .key) k, key-length list from to (i .within)) in
+            let l : end + length (Key .write k) ≡ end + (lengthSize + (to - from)) = omega (arith, record-length (base .key) k, key-length list from to (i .within)) in
             let w' : Spliced d end place 0 (Key .write k) d' = rw (key-record (base .key) i tiny) at w in
             let r = row-put Key d (where-now .less) (where-now .more) k place end d' (where-now .before) (where-now .after) w' (key-ok (base .key) k (short-now .0) (omega arith)) (omega (arith, l, fits)) in
             record {

@@ -9,6 +9,7 @@ use lib.Seq.{slice, length-slice, take-append-add}
 use Rattle.fields.specs.Fields.{keyList}
 use Rattle.fields.specs.Forms.{ItemAt, sizeAt}
 use Rattle.machine.specs.State.{Bytes}
+use Rattle.layout.specs.Offsets.{lengthSize, tagSize}
 use Rattle.codec.specs.Formats.{number, raw, bind, only, via}
 use Rattle.codec.specs.Places.{Stands}
 use Rattle.codec.proofs.NumberLaws.{stands-number, length-number}
@@ -21,18 +22,18 @@ part s from to = take (to - from) (drop from s)
 
 -- the two bytes behind a key field's tag and its payload are the record of the key
 pub key-record : (m : ℕ) {list : Bytes} {at from to : ℕ} → ItemAt keyList list at 0x4b from to (slice from to list) → ((i : ℕ) → getD list i 0 < 256)
-    → part list (from - 2) to ≡ keyForm m .write (part list from to)
+    → part list (from - lengthSize) to ≡ keyForm m .write (part list from to)
 unfolding keyForm via bind only raw sizeAt
 key-record m {list} {at} {from} {to} i small =
     let n : ℕ = sizeAt list at in
     let e : at + 1 + 1 ≡ at + 2 = omega arith in
-    let f : from - 2 ≡ at + 1 = omega (arith, i .begins) in
-    let g : at + 1 + 2 ≡ from = omega (arith, i .begins) in
-    let q : Stands (number 2) list (at + 1) n (at + 1 + 2) = stands-number 2 list (at + 1) n (omega (arith, i .begins, i .ends, i .within)) small (rw e) in
-    let b : drop (at + 1) list ≡ number 2 .write n ++ drop from list = number 2 .read-is (drop (at + 1) list) n (drop (at + 1 + 2) list) (q .reads) .0 ∙ rw g in
+    let f : from - lengthSize ≡ at + tagSize = omega (arith, i .begins) in
+    let g : at + tagSize + lengthSize ≡ from = omega (arith, i .begins) in
+    let q : Stands (number lengthSize) list (at + tagSize) n (at + tagSize + lengthSize) = stands-number lengthSize list (at + tagSize) n (omega (arith, i .begins, i .ends, i .within)) small (rw e) in
+    let b : drop (at + tagSize) list ≡ number lengthSize .write n ++ drop from list = number lengthSize .read-is (drop (at + tagSize) list) n (drop (at + tagSize + lengthSize) list) (q .reads) .0 ∙ rw g in
     let l : length (part list from to) ≡ n = ap length (sym (drop-take from to list)) ∙ length-slice from to list (i .within) ∙ omega (arith, i .ends) in
-    let t : to - (at + 1) ≡ length (number 2 .write n) + (to - from) = omega (arith, length-number 2 n, i .begins, i .ends) in
-    rw (f, l, b, t) (take-append-add (number 2 .write n) (drop from list) (to - from))
+    let t : to - (at + tagSize) ≡ length (number lengthSize .write n) + (to - from) = omega (arith, length-number lengthSize n, i .begins, i .ends) in
+    rw (f, l, b, t) (take-append-add (number lengthSize .write n) (drop from list) (to - from))
 
 pub key-length : (s : Bytes) (from to : ℕ) → to ≤ length s → length (part s from to) ≡ to - from
 key-length s from to h = ap length (sym (drop-take from to s)) ∙ length-slice from to s h
@@ -42,6 +43,6 @@ pub key-ok : (m : ℕ) (k : Bytes) → length k ≤ m → m < 65536 → keyForm 
 unfolding keyForm via bind only raw number
 key-ok m k h l = ((omega arith, le-leb (length k) m h), refl)
 
-pub record-length : (m : ℕ) (k : Bytes) → length (keyForm m .write k) ≡ 2 + length k
+pub record-length : (m : ℕ) (k : Bytes) → length (keyForm m .write k) ≡ lengthSize + length k
 unfolding keyForm via bind only raw
-record-length m k = length-append (number 2 .write (length k)) k ∙ rw (length-number 2 (length k))
+record-length m k = length-append (number lengthSize .write (length k)) k ∙ rw (length-number lengthSize (length k))

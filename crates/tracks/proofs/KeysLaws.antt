@@ -18,6 +18,7 @@ use Rattle.machine.specs.Serve.{addKeys, withTxn, answer, track}
 use Rattle.machine.proofs.ListLaws.{sum-append}
 use Rattle.machine.proofs.SetLaws.{insertAll-longer, insertAll-bytes}
 use Rattle.machine.proofs.WhichLaws.{set-marks, set-bytes, set-counts}
+use Rattle.layout.specs.Offsets.{idSize, entriesAt}
 use Rattle.moves.specs.Splices.{usedAfter}
 use Rattle.layout.specs.Keys.{setForm}
 use Rattle.layout.specs.Records.{txnForm}
@@ -47,11 +48,11 @@ unfolding sum
 one-of f ts front t back e = rw e (omega (arith, sum-append f front (t ∷ back)))
 
 module _ {s : Bytes} {v : View} (n : Seen s v) (w : Which) (id list : Bytes) where
-  pub keys-refused : ((length id ≡ 16 → ⊥) ⊎ (Form.Malformed ≡ formOf (keyList list))) → Served s (on (trackKeys w id list)) 2 0 s
+  pub keys-refused : ((length id ≡ idSize → ⊥) ⊎ (Form.Malformed ≡ formOf (keyList list))) → Served s (on (trackKeys w id list)) 2 0 s
   keys-refused (inl h) = refuse s (n .state) (trackKeys w id list) (seen-load n) malformed (keys-malformed base (n .state) id list w (inl h))
   keys-refused (inr e) = refuse s (n .state) (trackKeys w id list) (seen-load n) malformed (keys-malformed base (n .state) id list w (inr (no-list (keyList list) e)))
 
-  module _ (h : length id ≡ 16) where
+  module _ (h : length id ≡ idSize) where
     pub keys-too-long : Form.Long ≡ formOf (keyList list) → Served s (on (trackKeys w id list)) 4 0 s
     keys-too-long e = refuse s (n .state) (trackKeys w id list) (seen-load n) long (let l = long-list (keyList list) e in keys-long base (n .state) id list h w (l .keys) (l .is) (l .short))
 
@@ -132,6 +133,6 @@ module _ {s : Bytes} {v : View} (n : Seen s v) (w : Which) (id list : Bytes) whe
                 let gone : stands .end - at ≡ length (setForm (base .key) .write ks) = omega (arith, part-end (setForm (base .key)) (stands .part)) in
                 let fits : usedAfter (v .used) (stands .end - at) (setForm (base .key) .write all) ≤ roomSize base =
                 omega (arith, gone, set-length (base .key) ks, set-length (base .key) all, o .few, o .small, space-left n, within n, end-within, stands .part .from) in
-                let at-is : at ≡ 20 + (length (entriesOf (n .state .entries)) + length (activeOf (here n f .front))) + length (beforeSet w one) = omega (arith, a .is one q (here n f .part), place n f) in
+                let at-is : at ≡ entriesAt + (length (entriesOf (n .state .entries)) + length (activeOf (here n f .front))) + length (beforeSet w one) = omega (arith, a .is one q (here n f .part), place n f) in
                 let l = laid-within (here n f .front) (here n f .back) one t' (beforeSet w one) (setForm (base .key) .write ks) (afterSet w one) (laid n f) (set-split w one) (set-split-new w (listed .keys) one) at-is gone (o .spliced) fits in
                 change s s' (n .state) (withTxn t' (n .state)) (trackKeys w id list) (seen-load n) (changed n f t' refl l) k (tracks-on ∙ e)

@@ -8,6 +8,7 @@ use lib.ListN.{length, take, drop}
 use Rattle.fields.specs.Fields.{keyList}
 use Rattle.machine.specs.State.{Bytes, base, setBytes}
 use Rattle.machine.specs.Sets.{insertAll}
+use Rattle.layout.specs.Offsets.{countSize, lengthSize}
 use Rattle.layout.specs.Keys.{setForm}
 use Rattle.layout.specs.Places.{Row}
 use Rattle.tracks.specs.Sets.{Key, Ready}
@@ -15,12 +16,12 @@ use Rattle.tracks.specs.declared.drafts.Drafted.{Drafted}
 
 -- what the record of the largest set takes: its count, and two bytes for each mark beside the key bytes
 abbrev pub setSize : ℕ
-setSize = 2 + 2 * base .marks + base .bytes
+setSize = countSize + lengthSize * base .marks + base .bytes
 
 -- the keys stand behind the first two bytes
 pub record Begun (d : Bytes) (used n : ℕ) (list : Bytes) (marks bytes : ℕ) : Type 0 where
-  pub head : 2 ≤ length d
-  pub keys : Ready (drop 2 d) used n list marks bytes
+  pub head : countSize ≤ length d
+  pub keys : Ready (drop countSize d) used n list marks bytes
 
 -- the first bytes are the record of the set `all`, of which `ks` were there before, within the limits
 pub record SetStands (d : Bytes) (ks all : List Bytes) (marks bytes end n : ℕ) : Type 0 where
@@ -36,5 +37,5 @@ Outcome d ks all marks bytes Drafted.Full = (length ks + marks < length all) ⊎
 
 -- for every set that the used bytes can be read as, and every list of keys
 pub record DraftedIs (d : Bytes) (used count : ℕ) (list : Bytes) (marks bytes : ℕ) (d' : Bytes) (r : Drafted) : Type 0 where
-  pub is : (ks keys : List Bytes) → Row Key (drop 2 d) 0 ks used → length ks ≡ count → keyList list ≡ some keys → Outcome d' ks (insertAll keys ks) marks bytes r
+  pub is : (ks keys : List Bytes) → Row Key (drop countSize d) 0 ks used → length ks ≡ count → keyList list ≡ some keys → Outcome d' ks (insertAll keys ks) marks bytes r
   pub size : length d' ≡ length d

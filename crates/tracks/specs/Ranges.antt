@@ -9,6 +9,7 @@ use Rattle.keys.specs.Limit.{keyLimit}
 use Rattle.bounds.specs.Ranges.{Range, notEmpty}
 use Rattle.machine.specs.State.{Bytes, Txn, base, rangeBytes}
 use Rattle.machine.specs.Serve.{shortRange}
+use Rattle.layout.specs.Offsets.{countSize}
 use Rattle.codec.specs.Formats.{number}
 use Rattle.moves.specs.Splices.{Spliced}
 use Rattle.layout.specs.Keys.{rangesForm}
@@ -34,7 +35,7 @@ pub record AppendedTo (s : Bytes) (used end : ℕ) (bounds s' : Bytes) (t : Txn)
   pub ranges : Part (rangesForm (base .key)) s at (t .ranges) end
   pub longer : Bytes
   pub spliced : Spliced s used end 0 bounds longer
-  pub counted : s' ≡ paste longer at (number 2 .write (length (t .ranges) + 1)) 2
+  pub counted : s' ≡ paste longer at (number countSize .write (length (t .ranges) + 1)) countSize
 
 pub record Appended (s : Bytes) (used txn end : ℕ) (bounds s' : Bytes) : Type 0 where
   pub is : (t : Txn) → Part (txnForm (base .key)) s txn t end → AppendedTo s used end bounds s' t

@@ -10,6 +10,7 @@ use Rattle.fields.specs.Fields.{keyList}
 use Rattle.fields.specs.Forms.{shortKeys}
 use Rattle.machine.specs.State.{Bytes, base, setBytes}
 use Rattle.machine.specs.Sets.{insert, insertAll}
+use Rattle.layout.specs.Offsets.{lengthSize}
 use Rattle.codec.specs.Codec.{Codec}
 use Rattle.layout.specs.Keys.{keyForm}
 use Rattle.layout.specs.Places.{Row}
@@ -45,7 +46,7 @@ pub record Ready (d : Bytes) (used n : ℕ) (list : Bytes) (marks bytes : ℕ) :
   pub keys : List Bytes
   pub listed : keyList list ≡ some keys
   pub short : shortKeys (base .key) keys ≡ true
-  pub space : used + 2 * marks + bytes ≤ length d
+  pub space : used + lengthSize * marks + bytes ≤ length d
 
 -- the set `all`, of which `ks` were there before, stands in the first `used` bytes, within the limits
 pub record AllStand (d : Bytes) (ks all : List Bytes) (marks bytes used n : ℕ) : Type 0 where

@@ -12,6 +12,7 @@ use Rattle.machine.specs.declared.Which.{Which}
 use Rattle.machine.specs.declared.Which.the-variants.{Writes, Reads}
 use Rattle.machine.specs.State.{Bytes, Txn, base, setBytes}
 use Rattle.machine.specs.Sets.{insertAll}
+use Rattle.layout.specs.Offsets.{numberSize, lengthSize}
 use Rattle.codec.specs.Formats.{number}
 use Rattle.moves.specs.Splices.{Spliced}
 use Rattle.layout.specs.Keys.{setForm}
@@ -21,8 +22,8 @@ use Rattle.tracks.specs.declared.Grown.{Grown}
 
 -- the bytes of a transaction's record before the set
 abbrev pub beforeSet : Which → Txn → Bytes
-beforeSet Writes t = t .id ++ number 8 .write (t .start)
-beforeSet Reads t = t .id ++ (number 8 .write (t .start) ++ setForm (base .key) .write (t .writes))
+beforeSet Writes t = t .id ++ number numberSize .write (t .start)
+beforeSet Reads t = t .id ++ (number numberSize .write (t .start) ++ setForm (base .key) .write (t .writes))
 
 pub record SetAt (s : Bytes) (txn : ℕ) (which : Which) (r : ℕ) : Type 0 where
   pub is : (t : Txn) (e : ℕ) → Part (txnForm (base .key)) s txn t e → r ≡ txn + length (beforeSet which t)
@@ -39,7 +40,7 @@ pub record Growable (s : Bytes) (used at : ℕ) (list : Bytes) (marks bytes : �
   pub short : shortKeys (base .key) keys ≡ true
   pub few : length ks + marks ≤ base .marks
   pub small : setBytes ks + bytes ≤ base .bytes
-  pub space : used + 2 * marks + bytes ≤ length s
+  pub space : used + lengthSize * marks + bytes ≤ length s
 
 -- the record of the set `all` stands in the place of that of `ks`; k of its keys are new
 pub record SetGrown (s : Bytes) (used at : ℕ) (ks : List Bytes) (e : ℕ) (all : List Bytes) (marks bytes : ℕ) (s' : Bytes) (k : ℕ) : Type 0 where

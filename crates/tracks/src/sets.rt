@@ -3,11 +3,9 @@ ghost use Rattle.layout.specs.Places.{Rows};
 ghost use Rattle.tracks.specs.Sets.{Key, FoundIs, Ready, InsertedIs};
 use fields::NextKey;
 use fields::next_key;
+use layout::LENGTH;
 use moves::splice;
 use places::skips::key_past;
-
-// A key's length takes this many bytes.
-const HEAD: usize = 2;
 
 // Where a key belongs in a set: it is there, or it is to stand before what stands at a place.
 enum Found {
@@ -22,7 +20,7 @@ fn find_place(draft: &[u8], count: usize, key: &[u8]) -> Found
     let mut place = 0;
     let mut left = count;
     while 0 < left {
-        let from = place + HEAD;
+        let from = place + LENGTH;
         let next = key_past(draft, place);
         let side = keys::compare(key, &draft[from..next]);
         if side < 0 {
@@ -69,9 +67,9 @@ pub fn insert_all(
                     if marks == 0 || bytes < size {
                         return Inserted::Full;
                     }
-                    let head = from - HEAD;
+                    let head = from - LENGTH;
                     splice(draft, used, place, 0, &list[head..to]);
-                    used += HEAD + size;
+                    used += LENGTH + size;
                     count += 1;
                     marks -= 1;
                     bytes -= size;
