@@ -19,8 +19,30 @@ Inv-loop room₀ bytes out₀ at₀ put₀ room out at put = FedTo room₀ bytes
 abbrev μ-loop : tie.MeasureT-loop
 μ-loop room₀ bytes out₀ at₀ put₀ room out at put = length bytes - at
 
+-- from a named place back to the one before it, and to the start
+abbrev start-loop : tie.At-loop Inv-loop μ-loop → tie.Start Inv-loop μ-loop
+start-loop c = c .before .before .before .before
+
+abbrev before-else1 : tie.Else1 Inv-loop μ-loop → tie.At-loop Inv-loop μ-loop
+before-else1 c = c .before
+
+abbrev start-else1 : tie.Else1 Inv-loop μ-loop → tie.Start Inv-loop μ-loop
+start-else1 c = start-loop (c .before)
+
+abbrev before-tag : tie.After-tag Inv-loop μ-loop → tie.Else1 Inv-loop μ-loop
+before-tag c = c .before .before .before
+
+abbrev start-tag : tie.After-tag Inv-loop μ-loop → tie.Start Inv-loop μ-loop
+start-tag c = start-else1 (c .before .before .before)
+
+abbrev before-serve-record : tie.After-serve-record Inv-loop μ-loop → tie.After-tag Inv-loop μ-loop
+before-serve-record c = c .before .before .before .before
+
+abbrev before-room : tie.After-room Inv-loop μ-loop → tie.After-serve-record Inv-loop μ-loop
+before-room c = c .before
+
 -- the record that was read in this turn
-seen : (c : tie.After-tag Inv-loop μ-loop) → NextIs (now (c .before .before .before .before .before .before .before .before .args .bytes)) (c .before .before .before .before .loop .at) (Next.Whole (c .tag .given .0 .0) (c .tag .given .0 .1 .0) (c .tag .given .0 .1 .1 .0))
+seen : (c : tie.After-tag Inv-loop μ-loop) → NextIs (now (start-tag c .args .bytes)) (c .before .before .before .before .loop .at) (Next.Whole (c .tag .given .0 .0) (c .tag .given .0 .1 .0) (c .tag .given .0 .1 .1 .0))
 seen c = rw (c .tag .given .1) at (c .before .before .next-record .ensures)
 
 loop-holds : tie.Need-loop-holds Inv-loop μ-loop
@@ -57,13 +79,13 @@ serve-record-requires : tie.Need-serve-record-requires Inv-loop μ-loop
 serve-record-requires c κs = tt
 
 put-line-requires : tie.Need-put-line-requires Inv-loop μ-loop
-put-line-requires c κs = omega (arith, c .before .before .before .before .before .before .before .before .before .before .if1 .left, c .before .before .before .before .before .before .before .before .before .before .before .loop .inv .0 .size)
+put-line-requires c κs = omega (arith, before-tag (before-serve-record (before-room (c .before .before))) .if1 .left, before-else1 (before-tag (before-serve-record (before-room (c .before .before)))) .loop .inv .0 .size)
 
 loop-less : tie.Need-loop-less Inv-loop μ-loop
-loop-less c = omega (arith, seen (c .before .before .before .before .before .before .before .before .before .before), c .before .before .before .before .before .before .before .before .before .before .before .before .before .before .loop .inv .0 .inside)
+loop-less c = omega (arith, seen (before-serve-record (before-room (c .before .before .before .before .before))), before-else1 (before-tag (before-serve-record (before-room (c .before .before .before .before .before)))) .loop .inv .0 .inside)
 
 loop-again : tie.Need-loop-again Inv-loop μ-loop
-loop-again c = (fed-on (c .before .before .before .before .before .before .before .before .before .before .before .before .before .before .loop .inv .0) (seen (c .before .before .before .before .before .before .before .before .before .before)) (c .before .before .before .before .before .before .serve-record .ensures) (c .before .before .put-line .ensures) (answer-short _ _ (omega (arith, c .before .before .before .before .before .before .serve-record .ok)) (omega (arith, c .before .before .before .before .before .before .serve-record .ok))) (omega (arith, c .before .before .before .before .before .before .before .before .before .before .before .before .before .if1 .left, c .before .before .before .before .before .before .before .before .before .before .before .before .before .before .loop .inv .0 .size)), c .before .before .before .before .before .before .serve-record .ensures .size ∙ c .before .before .before .before .before .before .before .before .before .before .before .before .before .before .loop .inv .1)
+loop-again c = (fed-on (before-else1 (before-tag (before-serve-record (before-room (c .before .before .before .before .before)))) .loop .inv .0) (seen (before-serve-record (before-room (c .before .before .before .before .before)))) (before-room (c .before .before .before .before .before) .serve-record .ensures) (c .before .before .put-line .ensures) (answer-short _ _ (omega (arith, before-room (c .before .before .before .before .before) .serve-record .ok)) (omega (arith, before-room (c .before .before .before .before .before) .serve-record .ok))) (omega (arith, before-tag (before-serve-record (before-room (c .before .before .before .before .before))) .if1 .left, before-else1 (before-tag (before-serve-record (before-room (c .before .before .before .before .before)))) .loop .inv .0 .size)), before-room (c .before .before .before .before .before) .serve-record .ensures .size ∙ before-else1 (before-tag (before-serve-record (before-room (c .before .before .before .before .before)))) .loop .inv .1)
 
 enum-told : tie.Need-enum-told Inv-loop μ-loop
 enum-told c = search needs

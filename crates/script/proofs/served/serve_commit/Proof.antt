@@ -13,6 +13,10 @@ refuse-requires c κs = search needs
 same-length : tie.Need-same-length
 same-length c = search needs
 
+-- from a named place back to the one before it, and to the start
+abbrev before-read-eight : tie.After-read-eight → tie.Else1
+before-read-eight c = c .before
+
 returns : tie.Need-returns
 returns c = served-as (commit-none (c .before .before .before .before .before .args .payload .now) (c .before .before .if1 .taken)) (c .refuse .ensures)
 
@@ -35,7 +39,7 @@ same-length-2 : tie.Need-same-length-2
 same-length-2 c = search needs
 
 returns-2 : tie.Need-returns-2
-returns-2 c = served-as (commit-is (c .before .before .before .before .before .before .if1 .left) (c .before .before .before .before .before .read-eight .ensures)) (c .before .before .track-recent-committed-txn .ensures)
+returns-2 c = served-as (commit-is (before-read-eight (c .before .before .before .before .before) .if1 .left) (c .before .before .before .before .before .read-eight .ensures)) (c .before .before .track-recent-committed-txn .ensures)
 
 pub serve-commit-spec : {M : Type 1} → statement M
 serve-commit-spec =

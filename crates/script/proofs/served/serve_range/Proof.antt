@@ -32,8 +32,12 @@ track-read-range-requires c κs = search needs
 same-length : tie.Need-same-length
 same-length c = search needs
 
+-- from a named place back to the one before it, and to the start
+abbrev before-track-read-range-arg : tie.After-track-read-range-arg → tie.After-id-end
+before-track-read-range-arg c = c .before
+
 returns : tie.Need-returns
-returns c = served-as (split-as trackRange (c .before .before .before .before .before .before .id-end .ensures)) (c .before .before .track-read-range .ensures)
+returns c = served-as (split-as trackRange (before-track-read-range-arg (c .before .before .before .before .before) .id-end .ensures)) (c .before .before .track-read-range .ensures)
 
 pub serve-range-spec : {M : Type 1} → statement M
 serve-range-spec =

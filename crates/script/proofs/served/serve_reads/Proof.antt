@@ -33,8 +33,12 @@ track-read-keys-requires c κs = search needs
 same-length : tie.Need-same-length
 same-length c = search needs
 
+-- from a named place back to the one before it, and to the start
+abbrev before-track-read-keys-arg : tie.After-track-read-keys-arg → tie.After-id-end
+before-track-read-keys-arg c = c .before
+
 returns : tie.Need-returns
-returns c = served-as (split-as (trackKeys Reads) (c .before .before .before .before .before .before .id-end .ensures)) (c .before .before .track-read-keys .ensures)
+returns c = served-as (split-as (trackKeys Reads) (before-track-read-keys-arg (c .before .before .before .before .before) .id-end .ensures)) (c .before .before .track-read-keys .ensures)
 
 pub serve-reads-spec : {M : Type 1} → statement M
 serve-reads-spec =

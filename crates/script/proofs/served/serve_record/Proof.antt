@@ -37,26 +37,30 @@ refuse-requires c κs = search needs
 same-length : tie.Need-same-length
 same-length c = search needs
 
+-- from a named place back to the one before it, and to the start
+abbrev start-shared-slice-known : tie.After-shared-slice-known → tie.Start
+start-shared-slice-known c = c .before .before
+
 returns : tie.Need-returns
-returns c = served-as (tag-as (c .before .before .before .before .before .before .before .args .payload .now) (c .before .before .before .before .match .keys1)) (c .before .before .new-transaction .ensures)
+returns c = served-as (tag-as (start-shared-slice-known (c .before .before .before .before .before) .args .payload .now) (c .before .before .before .before .match .keys1)) (c .before .before .new-transaction .ensures)
 
 same-length-2 : tie.Need-same-length-2
 same-length-2 c = search needs
 
 returns-2 : tie.Need-returns-2
-returns-2 c = served-as (tag-as (c .before .before .before .before .before .before .before .args .payload .now) (c .before .before .before .before .match .keys2)) (c .before .before .serve-writes .ensures)
+returns-2 c = served-as (tag-as (start-shared-slice-known (c .before .before .before .before .before) .args .payload .now) (c .before .before .before .before .match .keys2)) (c .before .before .serve-writes .ensures)
 
 same-length-3 : tie.Need-same-length-3
 same-length-3 c = search needs
 
 returns-3 : tie.Need-returns-3
-returns-3 c = served-as (tag-as (c .before .before .before .before .before .before .before .args .payload .now) (c .before .before .before .before .match .keys3)) (c .before .before .serve-reads .ensures)
+returns-3 c = served-as (tag-as (start-shared-slice-known (c .before .before .before .before .before) .args .payload .now) (c .before .before .before .before .match .keys3)) (c .before .before .serve-reads .ensures)
 
 same-length-4 : tie.Need-same-length-4
 same-length-4 c = search needs
 
 returns-4 : tie.Need-returns-4
-returns-4 c = served-as (tag-as (c .before .before .before .before .before .before .before .args .payload .now) (c .before .before .before .before .match .keys4)) (c .before .before .serve-range .ensures)
+returns-4 c = served-as (tag-as (start-shared-slice-known (c .before .before .before .before .before) .args .payload .now) (c .before .before .before .before .match .keys4)) (c .before .before .serve-range .ensures)
 
 same-length-5 : tie.Need-same-length-5
 same-length-5 c = search needs
@@ -68,19 +72,19 @@ same-length-6 : tie.Need-same-length-6
 same-length-6 c = search needs
 
 returns-6 : tie.Need-returns-6
-returns-6 c = served-as (tag-as (c .before .before .before .before .before .before .before .args .payload .now) (c .before .before .before .before .match .keys6)) (c .before .before .serve-commit .ensures)
+returns-6 c = served-as (tag-as (start-shared-slice-known (c .before .before .before .before .before) .args .payload .now) (c .before .before .before .before .match .keys6)) (c .before .before .serve-commit .ensures)
 
 same-length-7 : tie.Need-same-length-7
 same-length-7 c = search needs
 
 returns-7 : tie.Need-returns-7
-returns-7 c = served-as (tag-as (c .before .before .before .before .before .before .before .args .payload .now) (c .before .before .before .before .match .keys7)) (c .before .before .serve-batch .ensures)
+returns-7 c = served-as (tag-as (start-shared-slice-known (c .before .before .before .before .before) .args .payload .now) (c .before .before .before .before .match .keys7)) (c .before .before .serve-batch .ensures)
 
 same-length-8 : tie.Need-same-length-8
 same-length-8 c = search needs
 
 returns-8 : tie.Need-returns-8
-returns-8 c = served-as (tag-as (c .before .before .before .before .before .before .before .args .payload .now) (c .before .before .before .before .match .keys8)) (c .before .before .drop-txn .ensures)
+returns-8 c = served-as (tag-as (start-shared-slice-known (c .before .before .before .before .before) .args .payload .now) (c .before .before .before .before .match .keys8)) (c .before .before .drop-txn .ensures)
 
 same-length-9 : tie.Need-same-length-9
 same-length-9 c = search needs
