@@ -33,8 +33,12 @@ track-write-keys-requires c κs = search needs
 same-length : tie.Need-same-length
 same-length c = search needs
 
+-- from a named place back to the one before it, and to the start
+abbrev before-track-write-keys-arg : tie.After-track-write-keys-arg → tie.After-id-end
+before-track-write-keys-arg c = c .before
+
 returns : tie.Need-returns
-returns c = served-as (split-as (trackKeys Writes) (c .before .before .before .before .before .before .id-end .ensures)) (c .before .before .track-write-keys .ensures)
+returns c = served-as (split-as (trackKeys Writes) (before-track-write-keys-arg (c .before .before .before .before .before) .id-end .ensures)) (c .before .before .track-write-keys .ensures)
 
 pub serve-writes-spec : {M : Type 1} → statement M
 serve-writes-spec =
