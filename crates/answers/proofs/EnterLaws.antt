@@ -12,7 +12,7 @@ use Rattle.fields.specs.Forms.{shortKeys}
 use Rattle.machine.specs.Lists.{keep, sum}
 use Rattle.machine.specs.State.{Bytes, Txn, Entry, State, Ceilings, withActive, withEntries, advanced, Fits, MachineState, marks, keyBytes, txnMarks, txnBytes, entryMarks, entryBytes, setBytes, idSize}
 use Rattle.machine.specs.Sets.{insertAll, find, without, prune, anyActive}
-use Rattle.machine.specs.Calls.{commit, batch, dropTxn, malformed, long, full, done, absent, refused}
+use Rattle.machine.specs.Calls.{commit, batch, dropTxn, malformed, longKey, full, done, absent, refused}
 use Rattle.machine.specs.Serve.{entry, enter, answer}
 use Rattle.machine.proofs.Kept.{fits-means}
 use Rattle.machine.proofs.ListLaws.{sum-append}
@@ -94,7 +94,7 @@ module _ (L : Ceilings) (s : State) (n : ℕ) (bs : Bytes) where
   batch-malformed e = rw e
 
   module _ (ks : List Bytes) (e : keyList bs ≡ some ks) where
-    pub batch-long : shortKeys (L .key) ks ≡ false → answer L s (batch n bs) ≡ refused long
+    pub batch-long : shortKeys (L .key) ks ≡ false → answer L s (batch n bs) ≡ refused longKey
     unfolding answer
     batch-long k = rw (e, k)
 

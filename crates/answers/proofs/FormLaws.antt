@@ -14,7 +14,7 @@ pub no-list : (o : Option (List Bytes)) → Form.Malformed ≡ formOf o → o �
 no-list none e = refl
 no-list (some ks) e = go (shortKeys keyLimit ks) e
   where
-    go : (b : Bool) → Form.Malformed ≡ cond b Form.Good Form.Long → some ks ≡ none
+    go : (b : Bool) → Form.Malformed ≡ cond b Form.Good Form.LongKey → some ks ≡ none
     go true q = absurd (let z : _≡_ {A = ℕ} 0 1 = cc in omega arith)
     go false q = absurd (let z : _≡_ {A = ℕ} 0 1 = cc in omega arith)
 
@@ -24,11 +24,11 @@ pub record Listed (o : Option (List Bytes)) (b : Bool) : Type 0 where
   pub is : o ≡ some keys
   pub short : shortKeys keyLimit keys ≡ b
 
-pub long-list : (o : Option (List Bytes)) → Form.Long ≡ formOf o → Listed o false
+pub long-list : (o : Option (List Bytes)) → Form.LongKey ≡ formOf o → Listed o false
 long-list none e = absurd (let z : _≡_ {A = ℕ} 0 1 = cc in omega arith)
 long-list (some ks) e = go (shortKeys keyLimit ks) refl e
   where
-    go : (b : Bool) → shortKeys keyLimit ks ≡ b → Form.Long ≡ cond b Form.Good Form.Long → Listed (some ks) false
+    go : (b : Bool) → shortKeys keyLimit ks ≡ b → Form.LongKey ≡ cond b Form.Good Form.LongKey → Listed (some ks) false
     go true p q = absurd (let z : _≡_ {A = ℕ} 0 1 = cc in omega arith)
     go false p q = record { keys = ks; is = refl; short = p }
 
@@ -36,6 +36,6 @@ pub good-list : (o : Option (List Bytes)) → Form.Good ≡ formOf o → Listed 
 good-list none e = absurd (let z : _≡_ {A = ℕ} 0 1 = cc in omega arith)
 good-list (some ks) e = go (shortKeys keyLimit ks) refl e
   where
-    go : (b : Bool) → shortKeys keyLimit ks ≡ b → Form.Good ≡ cond b Form.Good Form.Long → Listed (some ks) true
+    go : (b : Bool) → shortKeys keyLimit ks ≡ b → Form.Good ≡ cond b Form.Good Form.LongKey → Listed (some ks) true
     go true p q = record { keys = ks; is = refl; short = p }
     go false p q = absurd (let z : _≡_ {A = ℕ} 0 1 = cc in omega arith)

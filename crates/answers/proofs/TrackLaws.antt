@@ -13,7 +13,7 @@ use Rattle.fields.specs.Forms.{shortKeys}
 use Rattle.machine.specs.declared.Which.{Which}
 use Rattle.machine.specs.State.{Bytes, Txn, State, Ceilings, Fits, MachineState, marks, keyBytes, txnMarks, txnBytes, idSize}
 use Rattle.machine.specs.Sets.{find}
-use Rattle.machine.specs.Calls.{trackKeys, trackRange, malformed, long, empty, full, done, absent, refused}
+use Rattle.machine.specs.Calls.{trackKeys, trackRange, malformed, longKey, emptyRange, full, done, absent, refused}
 use Rattle.machine.specs.Serve.{isId, shortRange, addKeys, addRange, withTxn, track, answer}
 use Rattle.machine.proofs.Kept.{fits-means}
 use Rattle.machine.proofs.ActiveLaws.{find-id, put-known-sum, put-known-length}
@@ -70,15 +70,15 @@ module _ (L : Ceilings) (s : State) (i bs : Bytes) where
       go false q = rw q
 
   module _ (h : length i ≡ idSize) where
-    pub keys-long : (w : Which) (ks : List Bytes) → keyList bs ≡ some ks → shortKeys (L .key) ks ≡ false → answer L s (trackKeys w i bs) ≡ refused long
+    pub keys-long : (w : Which) (ks : List Bytes) → keyList bs ≡ some ks → shortKeys (L .key) ks ≡ false → answer L s (trackKeys w i bs) ≡ refused longKey
     unfolding answer
     keys-long w ks e k = rw (is-id i h, e, k)
 
-    pub range-long : (r : Range) → boundsOf bs ≡ some r → shortRange (L .key) r ≡ false → answer L s (trackRange i bs) ≡ refused long
+    pub range-long : (r : Range) → boundsOf bs ≡ some r → shortRange (L .key) r ≡ false → answer L s (trackRange i bs) ≡ refused longKey
     unfolding answer
     range-long r e k = rw (is-id i h, e, k)
 
-    pub range-empty : (r : Range) → boundsOf bs ≡ some r → shortRange (L .key) r ≡ true → notEmpty r ≡ false → answer L s (trackRange i bs) ≡ refused empty
+    pub range-empty : (r : Range) → boundsOf bs ≡ some r → shortRange (L .key) r ≡ true → notEmpty r ≡ false → answer L s (trackRange i bs) ≡ refused emptyRange
     unfolding answer
     range-empty r e k n = rw (is-id i h, e, k, n)
 

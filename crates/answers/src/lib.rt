@@ -24,12 +24,12 @@ impl Answer {
         value: 0,
     };
 
-    pub const LONG: Self = Answer {
+    pub const LONG_KEY: Self = Answer {
         status: 4,
         value: 0,
     };
 
-    pub const EMPTY: Self = Answer {
+    pub const EMPTY_RANGE: Self = Answer {
         status: 5,
         value: 0,
     };

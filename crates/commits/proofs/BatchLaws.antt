@@ -13,7 +13,7 @@ use Rattle.machine.specs.Lists.{sum}
 use Rattle.machine.specs.State.{Bytes, Entry, State, withEntries, advanced, base, MachineState, marks, keyBytes, setBytes}
 use Rattle.machine.specs.Sets.{insertAll}
 use Rattle.machine.specs.Serve.{entry, answer, serve}
-use Rattle.machine.specs.Calls.{Op, Answer, on, batch, holding, reply, malformed, long, full, done}
+use Rattle.machine.specs.Calls.{Op, Answer, on, batch, holding, reply, malformed, longKey, full, done}
 use Rattle.machine.proofs.ListLaws.{all-map}
 use Rattle.machine.proofs.Kept.{RoomOk, serve-keeps}
 use Rattle.codec.specs.Codec.{writeRun}
@@ -51,10 +51,10 @@ module _ {s : List ℕ} {v : View} (w : Seen s v) {seq : ℕ} {list : Bytes} whe
   pub batch-no-list : Form.Malformed ≡ formOf (keyList list) → Served s (on (batch seq list)) 2 0 s
   batch-no-list e = refuse s (w .state) (batch seq list) (seen-load w) malformed (batch-malformed base (w .state) seq list (no-list (keyList list) e))
 
-  pub batch-over-long : Form.Long ≡ formOf (keyList list) → Served s (on (batch seq list)) 4 0 s
+  pub batch-over-long : Form.LongKey ≡ formOf (keyList list) → Served s (on (batch seq list)) 4 0 s
   batch-over-long e =
       let l = long-list (keyList list) e in
-      refuse s (w .state) (batch seq list) (seen-load w) long (batch-long base (w .state) seq list (l .keys) (l .is) (l .short))
+      refuse s (w .state) (batch seq list) (seen-load w) longKey (batch-long base (w .state) seq list (l .keys) (l .is) (l .short))
 
   pub batch-nobody : {r : ℕ} {s' : List ℕ} → Form.Good ≡ formOf (keyList list) → v .active ≡ 0 → r ≡ max (v .last) seq → Emptied s r s' → seq < 256 ^ 8
       → Served s (on (batch seq list)) 0 r s'

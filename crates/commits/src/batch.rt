@@ -46,7 +46,7 @@ pub fn batch_entry(room: &mut [u8], v: View, seq: u64, list: &[u8]) -> Answer
 {
     match check_keys(list) {
         Form::Malformed => return Answer::MALFORMED,
-        Form::Long => return Answer::LONG,
+        Form::LongKey => return Answer::LONG_KEY,
         Form::Good => {
             if v.active == 0 {
                 let value = larger(v.last, seq);

@@ -36,7 +36,7 @@ module _ {bs : List ℕ} {at tag from to : ℕ} (i : ItemAt fields bs at tag fro
 -- the verdict on what is left of a list, by whether the keys before it were short
 abbrev pub formAfter : Bool → Option (List (List ℕ)) → Form
 formAfter short none = Form.Malformed
-formAfter short (some ks) = cond (short && shortKeys keyLimit ks) Form.Good Form.Long
+formAfter short (some ks) = cond (short && shortKeys keyLimit ks) Form.Good Form.LongKey
 
 pub form-start : (o : Option (List (List ℕ))) → formOf o ≡ formAfter true o
 form-start none = refl
@@ -49,9 +49,9 @@ form-before true k (some ks) = refl
 form-before false k (some ks) = refl
 
 module _ (bs : List ℕ) (at : ℕ) (short : Bool) where
-  pub form-end : EndAt bs at → formAfter short (keyList (drop at bs)) ≡ cond short Form.Good Form.Long
+  pub form-end : EndAt bs at → formAfter short (keyList (drop at bs)) ≡ cond short Form.Good Form.LongKey
   unfolding shortKeys
-  form-end e = rw (e .ends, list-nil asKey) (ap (λ b. cond b Form.Good Form.Long) (and-true short))
+  form-end e = rw (e .ends, list-nil asKey) (ap (λ b. cond b Form.Good Form.LongKey) (and-true short))
 
   pub form-bad : NoKeyAt bs at → formAfter short (keyList (drop at bs)) ≡ Form.Malformed
   form-bad b = rw (b .breaks)

@@ -66,7 +66,7 @@ shortKeys n (k ∷ ks) = leb (length k) n && shortKeys n ks
 -- the whole form first, then over-long keys
 abbrev pub formOf : Option (List (List ℕ)) → Form
 formOf none = Form.Malformed
-formOf (some ks) = cond (shortKeys keyLimit ks) Form.Good Form.Long
+formOf (some ks) = cond (shortKeys keyLimit ks) Form.Good Form.LongKey
 
 -- the first item of a list that can be read and has one
 abbrev pub firstOf : {A : Type 0} → Option (List A) → Option A

@@ -77,7 +77,7 @@ pub fn next_key(list: &[u8], at: usize) -> NextKey
 // Document 01's verdict on a key list: well formed, well formed with a key over the limit (4), badly formed (2).
 pub enum Form {
     Good,
-    Long,
+    LongKey,
     Malformed,
 }
 
@@ -99,7 +99,7 @@ pub fn check_keys(list: &[u8]) -> Form
                 if short {
                     return Form::Good;
                 }
-                return Form::Long;
+                return Form::LongKey;
             }
             NextKey::Bad => return Form::Malformed,
         }

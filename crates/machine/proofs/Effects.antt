@@ -11,7 +11,7 @@ use Rattle.fields.specs.Forms.{shortKeys}
 use Rattle.machine.specs.declared.Which.{Which}
 use Rattle.machine.specs.State.{Bytes, Txn, State, Ceilings, advanced, txnMarks, fits}
 use Rattle.machine.specs.Sets.{insertAll, find, without, least, conflict}
-use Rattle.machine.specs.Calls.{Op, begin, trackKeys, trackRange, check, commit, batch, dropTxn, minimum, Refusal, malformed, again, long, empty, full, Answer, done, absent, refused, _>>=_, _>>_, need, given}
+use Rattle.machine.specs.Calls.{Op, begin, trackKeys, trackRange, check, commit, batch, dropTxn, minimum, Refusal, malformed, again, longKey, emptyRange, full, Answer, done, absent, refused, _>>=_, _>>_, need, given}
 use Rattle.machine.specs.Serve.{isId, isNew, shortRange, verdict, addKeys, addRange, withTxn, begun, entered, dropped, settle, answer}
 use Rattle.machine.specs.History.{written}
 
@@ -91,15 +91,15 @@ effect L s (begin i) =
 effect L s (trackKeys w i bs) =
     on-need (isId i) malformed _ λ e.
     on-given (keyList bs) _ _ (λ z. refuses malformed) λ ks f.
-    on-need (shortKeys (L .key) ks) long _ λ g.
+    on-need (shortKeys (L .key) ks) longKey _ λ g.
     on-given (find i (s .active)) _ _ (misses i (seeks-keys w bs)) λ t h.
     on-settle _ _ λ k.
     tracks i t (addKeys w ks t) _ refl refl h (adds-keys w bs ks f g) k
 effect L s (trackRange i bs) =
     on-need (isId i) malformed _ λ e.
     on-given (boundsOf bs) _ _ (λ z. refuses malformed) λ r f.
-    on-need (shortRange (L .key) r) long _ λ g.
-    on-need (notEmpty r) empty _ λ g'.
+    on-need (shortRange (L .key) r) longKey _ λ g.
+    on-need (notEmpty r) emptyRange _ λ g'.
     on-given (find i (s .active)) _ _ (misses i (seeks-range bs)) λ t h.
     on-settle _ _ λ k.
     tracks i t (addRange r t) _ refl refl h (adds-range bs r f g g') k
@@ -114,7 +114,7 @@ effect L s (commit i n) =
     commits i n t _ refl h k
 effect L s (batch n bs) =
     on-given (keyList bs) _ _ (λ z. refuses malformed) λ ks f.
-    on-need (shortKeys (L .key) ks) long _ λ g.
+    on-need (shortKeys (L .key) ks) longKey _ λ g.
     on-settle _ _ λ k.
     batches n bs ks _ refl f g k
 effect L s (dropTxn i) =

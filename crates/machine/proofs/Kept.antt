@@ -17,7 +17,7 @@ use Rattle.machine.specs.declared.Which.{Which}
 use Rattle.machine.specs.declared.Which.the-variants.{Writes, Reads}
 use Rattle.machine.specs.State.{Bytes, Txn, Entry, State, Ceilings, newTxn, freshState, advanced, txnMarks, txnBytes, entryMarks, entryBytes, marks, keyBytes, fits, Fits, Ascends, ids, SetOk, RangeOk, TxnOk, EntryOk, MachineState}
 use Rattle.machine.specs.Sets.{equal, insertAll, find, without, inReach, anyActive}
-use Rattle.machine.specs.Calls.{Op, Call, fresh, on, Room, short, broken, holding, Refusal, malformed, again, long, empty, full, refusalStatus, Answer, done, absent, refused, reply}
+use Rattle.machine.specs.Calls.{Op, Call, fresh, on, Room, short, broken, holding, Refusal, malformed, again, longKey, emptyRange, full, refusalStatus, Answer, done, absent, refused, reply}
 use Rattle.machine.specs.Serve.{isId, shortRange, addKeys, withTxn, entered, dropped, answer, serve}
 use Rattle.machine.proofs.ListLaws.{all-map, all-append, all-of, keep-all, keep-sum, keep-length}
 use Rattle.machine.proofs.SetLaws.{insertAll-ascends, insertAll-all}
@@ -251,8 +251,8 @@ refuses L (holding s) (on c) h = of-answer (answer L s c) h
 pub refusal-number : (r : Refusal) → (2 ≤ refusalStatus r) × (refusalStatus r ≡ 7 → ⊥)
 refusal-number malformed = (omega arith, λ e. omega (arith, e))
 refusal-number again = (omega arith, λ e. omega (arith, e))
-refusal-number long = (omega arith, λ e. omega (arith, e))
-refusal-number empty = (omega arith, λ e. omega (arith, e))
+refusal-number longKey = (omega arith, λ e. omega (arith, e))
+refusal-number emptyRange = (omega arith, λ e. omega (arith, e))
 refusal-number full = (omega arith, λ e. omega (arith, e))
 
 -- a room that holds a machine state never gets 7

@@ -12,7 +12,7 @@ use borrow.Author.Tests.{eq-eqb}
 use Rattle.machine.specs.Lists.{keep, All}
 use Rattle.machine.specs.State.{Bytes, Txn, Entry, State, Ceilings, newTxn, freshState, TxnOk, MachineState}
 use Rattle.machine.specs.Sets.{find, without, inReach, anyActive, conflict}
-use Rattle.machine.specs.Calls.{Op, check, Call, fresh, on, Room, short, broken, holding, Refusal, malformed, again, long, empty, full, Answer, refused, replied, reply}
+use Rattle.machine.specs.Calls.{Op, check, Call, fresh, on, Room, short, broken, holding, Refusal, malformed, again, longKey, emptyRange, full, Answer, refused, replied, reply}
 use Rattle.machine.specs.Serve.{entry, isId, verdict, withTxn, entered, dropped, answer, serve}
 use Rattle.machine.specs.History.{World, written, afterCall, afterCalls, start, activeOf, Conflict, SaysConflict}
 use Rattle.machine.proofs.ListLaws.{all-map, all-append, all-of, all-from}
@@ -54,8 +54,8 @@ after s c h x = cond (eqb (reply s x .status) 0) (h ++ written s c) h
 pub after-refused : (s : State) (c : Op) (h : List Entry) (r : Refusal) → after s c h (refused r) ≡ h
 after-refused s c h malformed = refl
 after-refused s c h again = refl
-after-refused s c h long = refl
-after-refused s c h empty = refl
+after-refused s c h longKey = refl
+after-refused s c h emptyRange = refl
 after-refused s c h full = refl
 
 pub adds-same : (L : Ceilings) (i : Bytes) (t t' : Txn) (c : Op) → Adds L i t c t' → (t' .id ≡ t .id) × (t' .start ≡ t .start)

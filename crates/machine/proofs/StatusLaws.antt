@@ -18,8 +18,8 @@ use Rattle.machine.specs.State.{Bytes, Txn, State, Ceilings, setOf, Mach
 use Rattle.machine.specs.Sets.{equal, insertAll, find, without}
 use Rattle.machine.specs.Calls.{Op, begin, trackKeys, trackRange, check, commit, batch, dropTxn, minimum, ofSome, on, holding}
 use Rattle.machine.specs.Serve.{entry, addKeys, addRange, withTxn, withEntry, serve}
-use Rattle.machine.specs.Table.{isMalformed, isLong, isEmptyRange, isAgain, isAbsent, isFull, passesTotal, trackPasses}
-use Rattle.machine.specs.Words.{Malformed, Long, Empty, Again, Absent, PassesTotal, newMarks, newBytes, KeysPass, RangePasses, BatchPasses, Other, Full, First, Status}
+use Rattle.machine.specs.Table.{isMalformed, isLongKey, isEmptyRange, isAgain, isAbsent, isFull, passesTotal, trackPasses}
+use Rattle.machine.specs.Words.{Malformed, LongKey, EmptyRange, Again, Absent, PassesTotal, newMarks, newBytes, KeysPass, RangePasses, BatchPasses, Other, Full, First, Status}
 use Rattle.machine.proofs.ListLaws.{not-nil, keep-holds, sum-append}
 use Rattle.machine.proofs.SetLaws.{equal-refl, equal-eq, insertAll-longer, insertAll-bytes}
 use Rattle.machine.proofs.WhichLaws.{set-marks, set-bytes}
@@ -202,15 +202,15 @@ one-status L s c =
 pub status-is : (L : Ceilings) (s : State) (c : Op) → MachineState L s → Status L s c (serve L (holding s) (on c) .status)
 status-is L s c ok =
     subst (Status L s c) (sym (rows L s c ok))
-    (first-test (Malformed c) (Long L c) (Empty c) (Again s c) (Absent s c) (Full L s c)
-    (isMalformed c) (isLong L c) (isEmptyRange c) (isAgain s c) (isAbsent s c) (isFull L s c)
+    (first-test (Malformed c) (LongKey L c) (EmptyRange c) (Again s c) (Absent s c) (Full L s c)
+    (isMalformed c) (isLongKey L c) (isEmptyRange c) (isAgain s c) (isAbsent s c) (isFull L s c)
     (malformed-means c) (long-means L c) (empty-means c) (again-means s c) (absent-means s c) (full-means L s ok c))
 
 -- a batch with nobody active is never refused for lack of room
 pub idle-batch : (L : Ceilings) (s : State) (n : ℕ) (bs : Bytes) → MachineState L s → s .active ≡ []
     → serve L (holding s) (on (batch n bs)) .status ≡ 6 → ⊥
 idle-batch L s n bs ok q e =
-    go (isMalformed (batch n bs)) (isLong L (batch n bs)) (isFull L s (batch n bs)) (rw q) (sym (rows L s (batch n bs) ok) ∙ e)
+    go (isMalformed (batch n bs)) (isLongKey L (batch n bs)) (isFull L s (batch n bs)) (rw q) (sym (rows L s (batch n bs) ok) ∙ e)
   where
     go : (a b c : Bool) → c ≡ false → _≡_ {A = ℕ} (cond a 2 (cond b 4 (cond c 6 0))) 6 → ⊥
     go true b c f z = omega (arith, z)

@@ -18,8 +18,8 @@ use Rattle.machine.specs.State.{Bytes, Txn, State, Ceilings, idSize}
 use Rattle.machine.specs.Sets.{find}
 use Rattle.machine.specs.Calls.{Op, takes, ofSome}
 use Rattle.machine.specs.Serve.{isId, isNew, shortRange}
-use Rattle.machine.specs.Table.{isNone, isMalformed, longKeys, longBound, isLong, emptyRange, isEmptyRange, isAgain, isAbsent}
-use Rattle.machine.specs.Words.{Has, BadId, BadList, BadBounds, Malformed, LongKey, LongBound, Long, EmptyRange, Empty, IsActive, Again, NotActive, Absent}
+use Rattle.machine.specs.Table.{isNone, isMalformed, longKeys, longBound, isLongKey, emptyBounds, isEmptyRange, isAgain, isAbsent}
+use Rattle.machine.specs.Words.{Has, BadId, BadList, BadBounds, Malformed, HasLongKey, HasLongBound, LongKey, IsEmpty, EmptyRange, IsActive, Again, NotActive, Absent}
 use Rattle.machine.proofs.ListLaws.{or-cases, or-left, or-right}
 
 -- ---------------------------------------------------------------- tests and words
@@ -111,15 +111,15 @@ long-of-means n (x ∷ ks) = step (leb (length x) n) refl (long-of-means n ks)
             go (inl q) = absurd (omega (arith, leb-true (length x) n e, z .2, ap length q))
             go (inr m) = ih .1 (z .0, m, z .2)
 
-keys-long : (L : Ceilings) (bs : Bytes) → Says (longKeys L bs) (LongKey L bs)
+keys-long : (L : Ceilings) (bs : Bytes) → Says (longKeys L bs) (HasLongKey L bs)
 keys-long L bs = Iff·trans (some-means (keyList bs) (λ ks. not (shortKeys (L .key) ks))) (out, back)
   where
-    out : (ks : List Bytes) × (keyList bs ≡ some ks) × (not (shortKeys (L .key) ks) ≡ true) → LongKey L bs
+    out : (ks : List Bytes) × (keyList bs ≡ some ks) × (not (shortKeys (L .key) ks) ≡ true) → HasLongKey L bs
     out z =
         let k = long-of-means (L .key) (z .0) .0 (z .2) in
         record { keys = z .0; listed = z .1; key = k .0; among = k .1; long = k .2 }
 
-    back : LongKey L bs → (ks : List Bytes) × (keyList bs ≡ some ks) × (not (shortKeys (L .key) ks) ≡ true)
+    back : HasLongKey L bs → (ks : List Bytes) × (keyList bs ≡ some ks) × (not (shortKeys (L .key) ks) ≡ true)
     back k = (k .keys, k .listed, long-of-means (L .key) (k .keys) .1 (k .key, k .among, k .long))
 
 says-nand : (a b : Bool) (P Q : Type 0) → Says (not a) P → Says (not b) Q → Says (not (a && b)) (P ⊎ Q)
@@ -130,7 +130,7 @@ says-nand true b P Q p q = (λ e. inr (q .0 e), back)
     back (inl x) = absurd (false≢true (p .1 x))
     back (inr x) = q .1 x
 
-bounds-long : (L : Ceilings) (bs : Bytes) → Says (longBound L bs) (LongBound L bs)
+bounds-long : (L : Ceilings) (bs : Bytes) → Says (longBound L bs) (HasLongBound L bs)
 bounds-long L bs =
     Iff·trans (some-means (boundsOf bs) (λ r. not (shortRange (L .key) r)))
     (λ z. record { range = z .0; read = z .1; long = either (z .0) .0 (z .2) }, λ k. (k .range, k .read, either (k .range) .1 (k .long)))
@@ -138,18 +138,18 @@ bounds-long L bs =
     either : (r : Range) → Says (not (shortRange (L .key) r)) ((L .key < length (keyOf (r .start))) ⊎ (L .key < length (keyOf (r .end))))
     either r = says-nand (leb (length (keyOf (r .start))) (L .key)) (leb (length (keyOf (r .end))) (L .key)) (L .key < length (keyOf (r .start))) (L .key < length (keyOf (r .end))) (over-means (length (keyOf (r .start))) (L .key)) (over-means (length (keyOf (r .end))) (L .key))
 
-pub long-means : (L : Ceilings) (c : Op) → Says (isLong L c) (Long L c)
+pub long-means : (L : Ceilings) (c : Op) → Says (isLongKey L c) (LongKey L c)
 long-means L c =
     says-or _ _ _ _
-    (has-means (takes c .list) (longKeys L) (LongKey L) (keys-long L)) (has-means (takes c .bounds) (longBound L) (LongBound L) (bounds-long L))
+    (has-means (takes c .list) (longKeys L) (HasLongKey L) (keys-long L)) (has-means (takes c .bounds) (longBound L) (HasLongBound L) (bounds-long L))
 
-range-empty : (bs : Bytes) → Says (emptyRange bs) (EmptyRange bs)
+range-empty : (bs : Bytes) → Says (emptyBounds bs) (IsEmpty bs)
 range-empty bs =
     Iff·trans (some-means (boundsOf bs) (λ r. not (notEmpty r)))
     (λ z. record { range = z .0; read = z .1; empty = not-true (notEmpty (z .0)) (z .2) }, λ k. (k .range, k .read, ap not (k .empty)))
 
-pub empty-means : (c : Op) → Says (isEmptyRange c) (Empty c)
-empty-means c = has-means (takes c .bounds) emptyRange EmptyRange range-empty
+pub empty-means : (c : Op) → Says (isEmptyRange c) (EmptyRange c)
+empty-means c = has-means (takes c .bounds) emptyBounds IsEmpty range-empty
 
 -- ---------------------------------------------------------------- rows 3 and 1
 

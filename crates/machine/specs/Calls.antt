@@ -70,13 +70,13 @@ pub data Room : Type 0 where
 
 -- statuses 2 to 6
 pub data Refusal : Type 0 where
-  malformed again long empty full : Refusal
+  malformed again longKey emptyRange full : Refusal
 
 abbrev pub refusalStatus : Refusal → ℕ
 refusalStatus malformed = 2
 refusalStatus again = 3
-refusalStatus long = 4
-refusalStatus empty = 5
+refusalStatus longKey = 4
+refusalStatus emptyRange = 5
 refusalStatus full = 6
 
 -- what a machine state answers: status 0, status 1, or a refusal

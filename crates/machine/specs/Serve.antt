@@ -14,7 +14,7 @@ use Rattle.machine.specs.declared.Which.{Which}
 use Rattle.machine.specs.State.{Bytes, Txn, Entry, State, Ceilings, setOf, withSet, withRanges, freshState, withActive, withEntries, advanced, txnMarks, fits, idSize}
 pub use Rattle.machine.specs.State.{newTxn}
 use Rattle.machine.specs.Sets.{insertAll, put, find, without, least, pruned, emptiedIfIdle, conflict}
-use Rattle.machine.specs.Calls.{Op, begin, trackKeys, trackRange, check, commit, batch, dropTxn, minimum, Call, fresh, on, Room, short, broken, holding, malformed, again, long, empty, full, Answer, done, absent, refused, Reply, replied, reply, _>>=_, _>>_, need, given}
+use Rattle.machine.specs.Calls.{Op, begin, trackKeys, trackRange, check, commit, batch, dropTxn, minimum, Call, fresh, on, Room, short, broken, holding, malformed, again, longKey, emptyRange, full, Answer, done, absent, refused, Reply, replied, reply, _>>=_, _>>_, need, given}
 
 abbrev pub entry : ℕ → List Bytes → Entry
 entry n ks = record { seq = n; keys = ks }
@@ -85,13 +85,13 @@ answer L s (begin i) = do
 answer L s (trackKeys w i bs) = do
   need (isId i) malformed
   ks ← given (keyList bs) (refused malformed)
-  need (shortKeys (L .key) ks) long
+  need (shortKeys (L .key) ks) longKey
   track L s i (addKeys w ks)
 answer L s (trackRange i bs) = do
   need (isId i) malformed
   r ← given (boundsOf bs) (refused malformed)
-  need (shortRange (L .key) r) long
-  need (notEmpty r) empty
+  need (shortRange (L .key) r) longKey
+  need (notEmpty r) emptyRange
   track L s i (addRange r)
 -- "check: 1 conflict, 0 none"
 answer L s (check i) = do
@@ -107,7 +107,7 @@ answer L s (commit i n) = do
 -- "Write batch: the same with its own keys, an empty list included, and no id."
 answer L s (batch n bs) = do
   ks ← given (keyList bs) (refused malformed)
-  need (shortKeys (L .key) ks) long
+  need (shortKeys (L .key) ks) longKey
   enter L s (s .active) n (insertAll ks [])
 -- "Drop: remove the id if active, then prune, even for an unknown id."
 answer L s (dropTxn i) = do

@@ -32,15 +32,15 @@ longKeys L bs = ofSome (keyList bs) λ ks. not (shortKeys (L .key) ks)
 abbrev pub longBound : Ceilings → Bytes → Bool
 longBound L bs = ofSome (boundsOf bs) λ r. not (shortRange (L .key) r)
 
-abbrev pub isLong : Ceilings → Op → Bool
-isLong L c = ofSome (takes c .list) (longKeys L) || ofSome (takes c .bounds) (longBound L)
+abbrev pub isLongKey : Ceilings → Op → Bool
+isLongKey L c = ofSome (takes c .list) (longKeys L) || ofSome (takes c .bounds) (longBound L)
 
 -- 5: "range empty by the rule"
-abbrev pub emptyRange : Bytes → Bool
-emptyRange bs = ofSome (boundsOf bs) λ r. not (notEmpty r)
+abbrev pub emptyBounds : Bytes → Bool
+emptyBounds bs = ofSome (boundsOf bs) λ r. not (notEmpty r)
 
 abbrev pub isEmptyRange : Op → Bool
-isEmptyRange c = ofSome (takes c .bounds) emptyRange
+isEmptyRange c = ofSome (takes c .bounds) emptyBounds
 
 -- 3: "begin of an active id"
 abbrev pub isAgain : State → Op → Bool
@@ -75,7 +75,7 @@ isFull L s minimum = false
 abbrev pub statusOf : Ceilings → State → Op → ℕ
 statusOf L s c =
     cond (isMalformed c) 2
-    (cond (isLong L c) 4
+    (cond (isLongKey L c) 4
     (cond (isEmptyRange c) 5
     (cond (isAgain s c) 3
     (cond (isAbsent s c) 1

@@ -39,30 +39,30 @@ Malformed c =
 
 -- ---------------------------------------------------------------- rows 4 and 5
 
-pub record LongKey (L : Ceilings) (bs : Bytes) : Type 0 where
+pub record HasLongKey (L : Ceilings) (bs : Bytes) : Type 0 where
   pub keys : List Bytes
   pub listed : keyList bs ≡ some keys
   pub key : Bytes
   pub among : List·Memᴰ key keys
   pub long : L .key < length key
 
-pub record LongBound (L : Ceilings) (bs : Bytes) : Type 0 where
+pub record HasLongBound (L : Ceilings) (bs : Bytes) : Type 0 where
   pub range : Range
   pub read : boundsOf bs ≡ some range
   pub long : (L .key < length (keyOf (range .start))) ⊎ (L .key < length (keyOf (range .end)))
 
 -- "a key over 512 bytes"
-abbrev pub Long : Ceilings → Op → Type 0
-Long L c = Has (takes c .list) (LongKey L) ⊎ Has (takes c .bounds) (LongBound L)
+abbrev pub LongKey : Ceilings → Op → Type 0
+LongKey L c = Has (takes c .list) (HasLongKey L) ⊎ Has (takes c .bounds) (HasLongBound L)
 
-pub record EmptyRange (bs : Bytes) : Type 0 where
+pub record IsEmpty (bs : Bytes) : Type 0 where
   pub range : Range
   pub read : boundsOf bs ≡ some range
   pub empty : notEmpty range ≡ false
 
 -- "range empty by the rule"
-abbrev pub Empty : Op → Type 0
-Empty c = Has (takes c .bounds) EmptyRange
+abbrev pub EmptyRange : Op → Type 0
+EmptyRange c = Has (takes c .bounds) IsEmpty
 
 -- ---------------------------------------------------------------- rows 3 and 1
 
@@ -142,8 +142,8 @@ First number Row after n = (Row × (n ≡ number)) ⊎ ((Row → ⊥) × after n
 abbrev pub Status : Ceilings → State → Op → ℕ → Type 0
 Status L s c =
     First 2 (Malformed c)
-    (First 4 (Long L c)
-    (First 5 (Empty c)
+    (First 4 (LongKey L c)
+    (First 5 (EmptyRange c)
     (First 3 (Again s c)
     (First 1 (Absent s c)
     (First 6 (Full L s c)

@@ -10,18 +10,18 @@ use Rattle.keys.specs.Limit.{keyLimit}
 use Rattle.kinds.specs.Bounds.{Bound, unbounded, included, excluded, bound}
 use Rattle.bounds.specs.Ranges.{range, notEmpty}
 use Rattle.ranges.specs.declared.made.Making.{Making}
-use Rattle.ranges.specs.declared.made.Making.the-variants.{Done, TooLong, Empty}
+use Rattle.ranges.specs.declared.made.Making.the-variants.{Done, LongKey, EmptyRange}
 use Rattle.ranges.specs.declared.made.Made.{Made}
 use Rattle.ranges.specs.Made.{Sized, isDone, tooLong, kindOf, keyOf, madeOf, made, madeBound}
 use Rattle.ranges.specs.Making.{newOf, madeAs, answered, madeRange}
 use Rattle.ranges.specs.Prefixes.{subStart}
 use Rattle.ranges.proofs.MadeLaws.{take-padded, length-padded, bound-back}
 
-done-by : (t : Bool) (b : Bound) → isDone (cond t (made TooLong unbounded) (made Done b) .making) ≡ true → cond t (made TooLong unbounded) (made Done b) ≡ made Done b
+done-by : (t : Bool) (b : Bound) → isDone (cond t (made LongKey unbounded) (made Done b) .making) ≡ true → cond t (made LongKey unbounded) (made Done b) ≡ made Done b
 done-by true b e = cc
 done-by false b e = refl
 
-long-by : (t : Bool) (b : Bound) → isDone (cond t (made TooLong unbounded) (made Done b) .making) ≡ false → t ≡ true
+long-by : (t : Bool) (b : Bound) → isDone (cond t (made LongKey unbounded) (made Done b) .making) ≡ false → t ≡ true
 long-by true b e = refl
 long-by false b e = cc
 
@@ -44,8 +44,8 @@ sized-done k b e = record { len = short-key b e; bytes = length-padded (keyOf b)
 pub sized : (b : Bound) {m : Made} → m ≡ madeBound b → Sized m
 sized b e = rw e (go (tooLong b) refl)
   where
-    go : (t : Bool) → tooLong b ≡ t → Sized (cond t (made TooLong unbounded) (made Done b))
-    go true h = sized-done TooLong unbounded refl
+    go : (t : Bool) → tooLong b ≡ t → Sized (cond t (made LongKey unbounded) (made Done b))
+    go true h = sized-done LongKey unbounded refl
     go false h = sized-done Done b h
 
 -- a made bound read back
@@ -55,30 +55,30 @@ read-back b e =
     (λ i. bound (e i .bound .kind) (take (e i .bound .len) (e i .bound .bytes))) ∙ ap (bound (kindOf b)) (take-padded (keyOf b)) ∙ bound-back b
 
 module _ (s e : Bound) where
-  pub long-start : tooLong s ≡ true → madeAs TooLong unbounded unbounded ≡ madeRange (range s e)
+  pub long-start : tooLong s ≡ true → madeAs LongKey unbounded unbounded ≡ madeRange (range s e)
   unfolding newOf
-  long-start h = ap (λ v. answered v (range s e)) (sym (ap (λ t. cond (t || tooLong e) TooLong (cond (notEmpty (range s e)) Done Empty)) h))
+  long-start h = ap (λ v. answered v (range s e)) (sym (ap (λ t. cond (t || tooLong e) LongKey (cond (notEmpty (range s e)) Done EmptyRange)) h))
 
-  pub long-end : tooLong e ≡ true → madeAs TooLong unbounded unbounded ≡ madeRange (range s e)
+  pub long-end : tooLong e ≡ true → madeAs LongKey unbounded unbounded ≡ madeRange (range s e)
   unfolding newOf
   long-end h =
-      ap (λ v. answered v (range s e)) (sym (ap (λ t. cond t TooLong (cond (notEmpty (range s e)) Done Empty)) (ap (λ u. tooLong s || u) h ∙ or-true (tooLong s))))
+      ap (λ v. answered v (range s e)) (sym (ap (λ t. cond t LongKey (cond (notEmpty (range s e)) Done EmptyRange)) (ap (λ u. tooLong s || u) h ∙ or-true (tooLong s))))
 
   pub stands : {m : Making} → m ≡ newOf (range s e) → isDone m ≡ true → madeAs Done s e ≡ madeRange (range s e)
   stands {m} h d = go m d ∙ ap (λ v. answered v (range s e)) h
     where
       go : (v : Making) → isDone v ≡ true → madeAs Done s e ≡ answered v (range s e)
       go Done d = refl
-      go TooLong d = cc
-      go Empty d = cc
+      go LongKey d = cc
+      go EmptyRange d = cc
 
   pub falls : {m : Making} → m ≡ newOf (range s e) → isDone m ≡ false → madeAs m unbounded unbounded ≡ madeRange (range s e)
   falls {m} h d = go m d ∙ ap (λ v. answered v (range s e)) h
     where
       go : (v : Making) → isDone v ≡ false → madeAs v unbounded unbounded ≡ answered v (range s e)
       go Done d = cc
-      go TooLong d = refl
-      go Empty d = refl
+      go LongKey d = refl
+      go EmptyRange d = refl
 
 -- a prefix that is too long makes a start that is
 longer : (p s : List ℕ) → keyLimit < length p → keyLimit < length (p ++ s)

@@ -13,7 +13,7 @@ use Rattle.kinds.specs.declared.kind.Kind.{Kind}
 use Rattle.kinds.specs.declared.kind.Kind.the-variants.{Unbounded, Included, Excluded}
 use Rattle.kinds.specs.Bounds.{Bound, unbounded, included, excluded, bound, isBounded}
 use Rattle.ranges.specs.declared.made.Making.{Making}
-use Rattle.ranges.specs.declared.made.Making.the-variants.{Done, TooLong}
+use Rattle.ranges.specs.declared.made.Making.the-variants.{Done, LongKey}
 use Rattle.ranges.specs.declared.made.Made.{Made}
 use Rattle.ranges.specs.Made.{kindOf, keyOf, padded, madeOf, made, madeBound}
 
@@ -48,7 +48,7 @@ made-open Unbounded x e = refl
 made-open Included x e = cc
 made-open Excluded x e = cc
 
-pub made-long : (k : Kind) (x : List ℕ) → isBounded k ≡ true → keyLimit < length x → made TooLong unbounded ≡ madeBound (bound k x)
+pub made-long : (k : Kind) (x : List ℕ) → isBounded k ≡ true → keyLimit < length x → made LongKey unbounded ≡ madeBound (bound k x)
 made-long Unbounded x e h = cc
 made-long Included x e h = rw (lt-ltb keyLimit (length x) h)
 made-long Excluded x e h = rw (lt-ltb keyLimit (length x) h)

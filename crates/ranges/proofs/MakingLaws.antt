@@ -11,7 +11,7 @@ use Rattle.kinds.specs.declared.kind.Kind.{Kind}
 use Rattle.kinds.specs.declared.kind.Kind.the-variants.{Unbounded, Included, Excluded}
 use Rattle.kinds.specs.Bounds.{bound, isBounded}
 use Rattle.bounds.specs.Ranges.{Range, notEmpty}
-use Rattle.ranges.specs.declared.made.Making.the-variants.{Done, TooLong, Empty}
+use Rattle.ranges.specs.declared.made.Making.the-variants.{Done, LongKey, EmptyRange}
 use Rattle.ranges.specs.Made.{tooLong, padded, made}
 use Rattle.ranges.proofs.MadeLaws.{filled, bytes-of, put-within}
 use Rattle.ranges.specs.Making.{newOf}
@@ -27,9 +27,9 @@ raised-bytes p h l hz =
     (λ i. filled Done Excluded (n i) (b i)) ∙ bytes-of Excluded (set p k v) refl ∙ ap (λ o. made Done (endAt o)) (sym (increment-here p h (λ e. omega arith)))
 
 -- an answer of `new` by its three tests
-pub new-by : (r : Range) {a b t : Bool} → tooLong (r .start) ≡ a → tooLong (r .end) ≡ b → notEmpty r ≡ t → cond (a || b) TooLong (cond t Done Empty) ≡ newOf r
+pub new-by : (r : Range) {a b t : Bool} → tooLong (r .start) ≡ a → tooLong (r .end) ≡ b → notEmpty r ≡ t → cond (a || b) LongKey (cond t Done EmptyRange) ≡ newOf r
 unfolding newOf
-new-by r ha hb ht = sym (λ i. cond (ha i || hb i) TooLong (cond (ht i) Done Empty))
+new-by r ha hb ht = sym (λ i. cond (ha i || hb i) LongKey (cond (ht i) Done EmptyRange))
 
 -- the length test of a bound by its kind
 pub long-shut : (k : Kind) (x : List ℕ) → isBounded k ≡ true → ltb keyLimit (length x) ≡ tooLong (bound k x)

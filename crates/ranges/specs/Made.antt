@@ -10,20 +10,20 @@ use Rattle.kinds.specs.declared.kind.Kind.{Kind}
 use Rattle.kinds.specs.declared.kind.Kind.the-variants.{Unbounded, Included, Excluded}
 use Rattle.kinds.specs.Bounds.{Bound, unbounded, included, excluded}
 use Rattle.ranges.specs.declared.made.Making.{Making}
-use Rattle.ranges.specs.declared.made.Making.the-variants.{Done, TooLong, Empty}
+use Rattle.ranges.specs.declared.made.Making.the-variants.{Done, LongKey, EmptyRange}
 use Rattle.ranges.specs.declared.made.MadeBound.{MadeBound}
 use Rattle.ranges.specs.declared.made.Made.{Made}
 
 -- document 01's number of each answer
 abbrev pub status : Making → ℕ
 status Done = 0
-status TooLong = 4
-status Empty = 5
+status LongKey = 4
+status EmptyRange = 5
 
 abbrev pub isDone : Making → Bool
 isDone Done = true
-isDone TooLong = false
-isDone Empty = false
+isDone LongKey = false
+isDone EmptyRange = false
 
 abbrev pub tooLong : Bound → Bool
 tooLong unbounded = false
@@ -57,4 +57,4 @@ abbrev pub made : Making → Bound → Made
 made m b = record { making = m; bound = madeOf b }
 
 abbrev pub madeBound : Bound → Made
-madeBound b = cond (tooLong b) (made TooLong unbounded) (made Done b)
+madeBound b = cond (tooLong b) (made LongKey unbounded) (made Done b)

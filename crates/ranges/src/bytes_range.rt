@@ -37,11 +37,11 @@ impl MadeRange {
     {
         let a = start.making;
         if !a.is_done() {
-            return MadeRange::refused(Making::TooLong);
+            return MadeRange::refused(Making::LongKey);
         }
         let b = end.making;
         if !b.is_done() {
-            return MadeRange::refused(Making::TooLong);
+            return MadeRange::refused(Making::LongKey);
         }
         let s = start.bound;
         let k = s.kind;
@@ -153,16 +153,16 @@ impl BytesRange {
         ensures { λ r. ⌜ r ≡ newOf (range (bound start (now («start_key» .entry))) (bound end (now («end_key» .entry)))) ⌝ }
     {
         if too_long(start, start_key) {
-            return Making::TooLong;
+            return Making::LongKey;
         }
         if too_long(end, end_key) {
-            return Making::TooLong;
+            return Making::LongKey;
         }
         let inner = ComparableRange::new(start, end);
         if inner.non_empty(start_key, end_key) {
             return Making::Done;
         }
-        Making::Empty
+        Making::EmptyRange
     }
 
     pub fn unbounded() -> Self
@@ -193,7 +193,7 @@ impl BytesRange {
         ensures { λ r. ⌜ r ≡ madeRange (subrangeOf (now (prefix .entry)) (rangeOf subrange (now («start_suffix» .entry)) (now («end_suffix» .entry)))) ⌝ }
     {
         if KEY_LIMIT < prefix.len() {
-            return MadeRange::refused(Making::TooLong);
+            return MadeRange::refused(Making::LongKey);
         }
         let s = subrange.start;
         let e = subrange.end;
@@ -207,7 +207,7 @@ impl BytesRange {
         ensures { λ r. ⌜ r ≡ madeIncrement (now (prefix .entry)) ⌝ }
     {
         if KEY_LIMIT < prefix.len() {
-            return Made::nothing(Making::TooLong);
+            return Made::nothing(Making::LongKey);
         }
         increment(prefix)
     }

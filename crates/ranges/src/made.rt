@@ -13,8 +13,8 @@ use kinds::kind::Kind;
 // How the making of a range or of a key ended: document 01's statuses 0, 4 and 5.
 pub enum Making {
     Done,
-    TooLong,
-    Empty,
+    LongKey,
+    EmptyRange,
 }
 
 impl Making {
@@ -23,8 +23,8 @@ impl Making {
     {
         match self {
             Making::Done => true,
-            Making::TooLong => false,
-            Making::Empty => false,
+            Making::LongKey => false,
+            Making::EmptyRange => false,
         }
     }
 }
@@ -85,10 +85,10 @@ pub fn joined(kind: Kind, prefix: &[u8], suffix: &[u8]) -> Made
         return Made::nothing(Making::Done);
     }
     if KEY_LIMIT < prefix.len() {
-        return Made::nothing(Making::TooLong);
+        return Made::nothing(Making::LongKey);
     }
     if KEY_LIMIT - prefix.len() < suffix.len() {
-        return Made::nothing(Making::TooLong);
+        return Made::nothing(Making::LongKey);
     }
     let front = with_bytes(zeros(), 0, prefix);
     let bytes = with_bytes(front, prefix.len(), suffix);

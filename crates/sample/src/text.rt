@@ -35,11 +35,11 @@ pub fn put_status(making: Making) -> bool {
             put(b"0 ");
             true
         }
-        Making::TooLong => {
+        Making::LongKey => {
             put(b"4 -\n");
             false
         }
-        Making::Empty => {
+        Making::EmptyRange => {
             put(b"5 -\n");
             false
         }

@@ -17,7 +17,7 @@ use Rattle.bounds.specs.declared.comparable_range.ComparableRange.{ComparableRa
 use Rattle.bounds.specs.Ranges.{Range, rangeOf}
 use Rattle.stranvek.specs.Boundary.{paired}
 use Rattle.ranges.specs.declared.made.Making.{Making}
-use Rattle.ranges.specs.declared.made.Making.the-variants.{Done, TooLong, Empty}
+use Rattle.ranges.specs.declared.made.Making.the-variants.{Done, LongKey, EmptyRange}
 use Rattle.ranges.specs.Made.{isDone, status}
 use Rattle.stranvek.specs.declared.boundary.NewRange.{NewRange}
 use Rattle.fields.specs.Fields.{boundTag}
@@ -35,13 +35,13 @@ bounded n s e = record { status = n; «start_kind» = s; «end_kind» = e }
 
 pub new-done : (m : Making) (a b : Kind) → isDone m ≡ true → bounded 0 (boundTag a) (boundTag b) ≡ newRange m a b
 new-done Done a b e = refl
-new-done TooLong a b e = cc
-new-done Empty a b e = cc
+new-done LongKey a b e = cc
+new-done EmptyRange a b e = cc
 
 pub new-refused : (m : Making) (a b : Kind) → isDone m ≡ false → bounded (status m) (boundTag Unbounded) (boundTag Unbounded) ≡ newRange m a b
 new-refused Done a b e = cc
-new-refused TooLong a b e = refl
-new-refused Empty a b e = refl
+new-refused LongKey a b e = refl
+new-refused EmptyRange a b e = refl
 
 -- what two pairs are combined to, for the pairs that the numbers name
 pub pairs : (f : Range → Range → Combined) (x y u v : List ℕ) {z : Combined} {a b p q : ComparableRange} → z ≡ f (rangeOf a x y) (rangeOf b u v) → a ≡ p → b ≡ q

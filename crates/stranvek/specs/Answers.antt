@@ -5,7 +5,7 @@ use Rattle.keys.specs.Order.{sign}
 use Rattle.kinds.specs.declared.kind.Kind.{Kind}
 use Rattle.kinds.specs.declared.kind.Kind.the-variants.{Unbounded}
 use Rattle.ranges.specs.declared.made.Making.{Making}
-use Rattle.ranges.specs.declared.made.Making.the-variants.{Done, TooLong, Empty}
+use Rattle.ranges.specs.declared.made.Making.the-variants.{Done, LongKey, EmptyRange}
 use Rattle.ranges.specs.declared.made.Made.{Made}
 use Rattle.ranges.specs.Made.{status}
 use Rattle.stranvek.specs.declared.boundary.Compared.{Compared}
@@ -28,8 +28,8 @@ refusedRange m = record { status = status m; «start_kind» = boundTag Unbounded
 
 abbrev pub newRange : Making → Kind → Kind → NewRange
 newRange Done a b = record { status = status Done; «start_kind» = boundTag a; «end_kind» = boundTag b }
-newRange TooLong a b = refusedRange TooLong
-newRange Empty a b = refusedRange Empty
+newRange LongKey a b = refusedRange LongKey
+newRange EmptyRange a b = refusedRange EmptyRange
 
 abbrev pub madeKey : Made → MadeKey
 madeKey m = record { status = status (m .making); key = key (m .bound) }

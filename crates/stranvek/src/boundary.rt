@@ -136,8 +136,8 @@ pub fn status_of(making: Making) -> u8
 {
     match making {
         Making::Done => 0,
-        Making::TooLong => 4,
-        Making::Empty => 5,
+        Making::LongKey => 4,
+        Making::EmptyRange => 5,
     }
 }
 

@@ -80,8 +80,8 @@ module _ {bs : Bytes} {p : BoundPlaces} (b : BoundsAt bs p) where
         let v = length-slice (p .«end_from») (p .«end_to») bs (omega (arith, keys-within)) in
         (omega (arith, l, x, y, u, v, b .start-begins, b .end-begins, keys-within), omega (arith, l, x, y, u, v, b .start-begins, b .end-begins, keys-within))
 
-    pub judged-long : (keyLimit < p .«start_to» - p .«start_from») ⊎ (keyLimit < p .«end_to» - p .«end_from») → Judged.Long ≡ judged (boundsOf bs)
-    judged-long h = sym (ap judged (b .reads) ∙ ap (λ (x : Bool). cond x (cond (notEmpty said) (Judged.Good (rangeBytes said)) Judged.Empty) Judged.Long) (one-long keyLimit said (long h)))
+    pub judged-long : (keyLimit < p .«start_to» - p .«start_from») ⊎ (keyLimit < p .«end_to» - p .«end_from») → Judged.LongKey ≡ judged (boundsOf bs)
+    judged-long h = sym (ap judged (b .reads) ∙ ap (λ (x : Bool). cond x (cond (notEmpty said) (Judged.Good (rangeBytes said)) Judged.EmptyRange) Judged.LongKey) (one-long keyLimit said (long h)))
       where
         long : (keyLimit < p .«start_to» - p .«start_from») ⊎ (keyLimit < p .«end_to» - p .«end_from») → (keyLimit < length (keyOf (said .start))) ⊎ (keyLimit < length (keyOf (said .end)))
         long (inl x) = inl (omega (arith, x, sizes))
@@ -94,13 +94,13 @@ module _ {bs : Bytes} {p : BoundPlaces} (b : BoundsAt bs p) where
       lent-said : lent ≡ said
       lent-said = rw (k .0, k .1, drop-take (p .«start_from») (p .«start_to») bs, drop-take (p .«end_from») (p .«end_to») bs)
 
-      short : judged (boundsOf bs) ≡ cond (notEmpty said) (Judged.Good (rangeBytes said)) Judged.Empty
-      short = ap judged (b .reads) ∙ ap (λ (x : Bool). cond x (cond (notEmpty said) (Judged.Good (rangeBytes said)) Judged.Empty) Judged.Long) (both-short keyLimit said (omega (arith, sizes)) (omega (arith, sizes)))
+      short : judged (boundsOf bs) ≡ cond (notEmpty said) (Judged.Good (rangeBytes said)) Judged.EmptyRange
+      short = ap judged (b .reads) ∙ ap (λ (x : Bool). cond x (cond (notEmpty said) (Judged.Good (rangeBytes said)) Judged.EmptyRange) Judged.LongKey) (both-short keyLimit said (omega (arith, sizes)) (omega (arith, sizes)))
 
       pub judged-good : notEmpty lent ≡ true → Judged.Good (p .«start_to» - p .«start_from» + (p .«end_to» - p .«end_from»)) ≡ judged (boundsOf bs)
       judged-good e =
           let n : rangeBytes said ≡ p .«start_to» - p .«start_from» + (p .«end_to» - p .«end_from») = omega (arith, sizes) in
-          sym (short ∙ ap (λ (x : Bool). cond x (Judged.Good (rangeBytes said)) Judged.Empty) (ap notEmpty (sym lent-said) ∙ e) ∙ ap Judged.Good n)
+          sym (short ∙ ap (λ (x : Bool). cond x (Judged.Good (rangeBytes said)) Judged.EmptyRange) (ap notEmpty (sym lent-said) ∙ e) ∙ ap Judged.Good n)
 
-      pub judged-empty : notEmpty lent ≡ false → Judged.Empty ≡ judged (boundsOf bs)
-      judged-empty e = sym (short ∙ ap (λ (x : Bool). cond x (Judged.Good (rangeBytes said)) Judged.Empty) (ap notEmpty (sym lent-said) ∙ e))
+      pub judged-empty : notEmpty lent ≡ false → Judged.EmptyRange ≡ judged (boundsOf bs)
+      judged-empty e = sym (short ∙ ap (λ (x : Bool). cond x (Judged.Good (rangeBytes said)) Judged.EmptyRange) (ap notEmpty (sym lent-said) ∙ e))

@@ -12,7 +12,7 @@ use Rattle.fields.specs.Forms.{formOf}
 use Rattle.machine.specs.Lists.{sum}
 use Rattle.machine.specs.declared.Which.{Which}
 use Rattle.machine.specs.State.{Bytes, Txn, base, setOf, marks, keyBytes, setBytes, txnMarks, txnBytes}
-use Rattle.machine.specs.Calls.{on, trackKeys, malformed, long, full}
+use Rattle.machine.specs.Calls.{on, trackKeys, malformed, longKey, full}
 use Rattle.machine.specs.Sets.{insertAll}
 use Rattle.machine.specs.Serve.{addKeys, withTxn, answer, track}
 use Rattle.machine.proofs.ListLaws.{sum-append}
@@ -53,8 +53,8 @@ module _ {s : Bytes} {v : View} (n : Seen s v) (w : Which) (id list : Bytes) whe
   keys-refused (inr e) = refuse s (n .state) (trackKeys w id list) (seen-load n) malformed (keys-malformed base (n .state) id list w (inr (no-list (keyList list) e)))
 
   module _ (h : length id ≡ idSize) where
-    pub keys-too-long : Form.Long ≡ formOf (keyList list) → Served s (on (trackKeys w id list)) 4 0 s
-    keys-too-long e = refuse s (n .state) (trackKeys w id list) (seen-load n) long (let l = long-list (keyList list) e in keys-long base (n .state) id list h w (l .keys) (l .is) (l .short))
+    pub keys-too-long : Form.LongKey ≡ formOf (keyList list) → Served s (on (trackKeys w id list)) 4 0 s
+    keys-too-long e = refuse s (n .state) (trackKeys w id list) (seen-load n) longKey (let l = long-list (keyList list) e in keys-long base (n .state) id list h w (l .keys) (l .is) (l .short))
 
     module _ (g : Form.Good ≡ formOf (keyList list)) where
       listed : Listed (keyList list) true

@@ -12,7 +12,7 @@ use Rattle.bounds.specs.Ranges.{Range, notEmpty}
 use Rattle.fields.specs.Fields.{boundsOf}
 use Rattle.machine.specs.Lists.{sum}
 use Rattle.machine.specs.State.{Bytes, Txn, base, marks, keyBytes, rangeBytes, txnMarks, txnBytes}
-use Rattle.machine.specs.Calls.{on, trackRange, malformed, long, empty, full}
+use Rattle.machine.specs.Calls.{on, trackRange, malformed, longKey, emptyRange, full}
 use Rattle.machine.specs.Serve.{shortRange, addRange, withTxn, track, answer}
 use Rattle.machine.proofs.ListLaws.{sum-append}
 use Rattle.layout.specs.Keys.{rangeForm, rangesForm}
@@ -41,7 +41,7 @@ use Rattle.tracks.proofs.BoundsLaws.{bounds-record}
 record Said (o : Option Range) (j : Judged) : Type 0 where
   r : Range
   is : o ≡ some r
-  so : j ≡ cond (shortRange keyLimit r) (cond (notEmpty r) (Judged.Good (rangeBytes r)) Judged.Empty) Judged.Long
+  so : j ≡ cond (shortRange keyLimit r) (cond (notEmpty r) (Judged.Good (rangeBytes r)) Judged.EmptyRange) Judged.LongKey
 
 some-range : (o : Option Range) (j : Judged) → (j ≡ Judged.Malformed → ⊥) → j ≡ judged o → Said o j
 some-range none j h e = absurd (h e)
@@ -51,22 +51,22 @@ no-range : (o : Option Range) → Judged.Malformed ≡ judged o → o ≡ none
 no-range none e = refl
 no-range (some r) e = go (shortRange keyLimit r) (notEmpty r) e
   where
-    go : (a b : Bool) → Judged.Malformed ≡ cond a (cond b (Judged.Good (rangeBytes r)) Judged.Empty) Judged.Long → some r ≡ none
+    go : (a b : Bool) → Judged.Malformed ≡ cond a (cond b (Judged.Good (rangeBytes r)) Judged.EmptyRange) Judged.LongKey → some r ≡ none
     go true true e = absurd (let z : _≡_ {A = ℕ} 0 1 = cc in omega arith)
     go true false e = absurd (let z : _≡_ {A = ℕ} 0 1 = cc in omega arith)
     go false b e = absurd (let z : _≡_ {A = ℕ} 0 1 = cc in omega arith)
 
-is-long : (a b : Bool) (k : ℕ) → Judged.Long ≡ cond a (cond b (Judged.Good k) Judged.Empty) Judged.Long → a ≡ false
+is-long : (a b : Bool) (k : ℕ) → Judged.LongKey ≡ cond a (cond b (Judged.Good k) Judged.EmptyRange) Judged.LongKey → a ≡ false
 is-long true true k e = absurd (let z : _≡_ {A = ℕ} 0 1 = cc in omega arith)
 is-long true false k e = absurd (let z : _≡_ {A = ℕ} 0 1 = cc in omega arith)
 is-long false b k e = refl
 
-is-empty : (a b : Bool) (k : ℕ) → Judged.Empty ≡ cond a (cond b (Judged.Good k) Judged.Empty) Judged.Long → (a ≡ true) × (b ≡ false)
+is-empty : (a b : Bool) (k : ℕ) → Judged.EmptyRange ≡ cond a (cond b (Judged.Good k) Judged.EmptyRange) Judged.LongKey → (a ≡ true) × (b ≡ false)
 is-empty true true k e = absurd (let z : _≡_ {A = ℕ} 0 1 = cc in omega arith)
 is-empty true false k e = (refl, refl)
 is-empty false b k e = absurd (let z : _≡_ {A = ℕ} 0 1 = cc in omega arith)
 
-is-good : (a b : Bool) (k n : ℕ) → Judged.Good n ≡ cond a (cond b (Judged.Good k) Judged.Empty) Judged.Long → (a ≡ true) × (b ≡ true) × (n ≡ k)
+is-good : (a b : Bool) (k n : ℕ) → Judged.Good n ≡ cond a (cond b (Judged.Good k) Judged.EmptyRange) Judged.LongKey → (a ≡ true) × (b ≡ true) × (n ≡ k)
 is-good true true k n e = (refl, refl, cc)
 is-good true false k n e = absurd (let z : _≡_ {A = ℕ} 0 1 = cc in omega arith)
 is-good false b k n e = absurd (let z : _≡_ {A = ℕ} 0 1 = cc in omega arith)
@@ -93,16 +93,16 @@ module _ {s : Bytes} {v : View} (n : Seen s v) (id bs : Bytes) where
   range-refused (inr e) = refuse s (n .state) (trackRange id bs) (seen-load n) malformed (range-malformed base (n .state) id bs (inr (no-range (boundsOf bs) e)))
 
   module _ (h : length id ≡ 16) where
-    pub range-too-long : Judged.Long ≡ judged (boundsOf bs) → Served s (on (trackRange id bs)) 4 0 s
+    pub range-too-long : Judged.LongKey ≡ judged (boundsOf bs) → Served s (on (trackRange id bs)) 4 0 s
     range-too-long e =
-        let x = some-range (boundsOf bs) Judged.Long (λ w. absurd (let z : _≡_ {A = ℕ} 0 1 = cc in omega arith)) e in
-        refuse s (n .state) (trackRange id bs) (seen-load n) long (range-long base (n .state) id bs h (x .r) (x .is) (is-long (shortRange keyLimit (x .r)) (notEmpty (x .r)) (rangeBytes (x .r)) (x .so)))
+        let x = some-range (boundsOf bs) Judged.LongKey (λ w. absurd (let z : _≡_ {A = ℕ} 0 1 = cc in omega arith)) e in
+        refuse s (n .state) (trackRange id bs) (seen-load n) longKey (range-long base (n .state) id bs h (x .r) (x .is) (is-long (shortRange keyLimit (x .r)) (notEmpty (x .r)) (rangeBytes (x .r)) (x .so)))
 
-    pub range-is-empty : Judged.Empty ≡ judged (boundsOf bs) → Served s (on (trackRange id bs)) 5 0 s
+    pub range-is-empty : Judged.EmptyRange ≡ judged (boundsOf bs) → Served s (on (trackRange id bs)) 5 0 s
     range-is-empty e =
-        let x = some-range (boundsOf bs) Judged.Empty (λ w. absurd (let z : _≡_ {A = ℕ} 0 1 = cc in omega arith)) e in
+        let x = some-range (boundsOf bs) Judged.EmptyRange (λ w. absurd (let z : _≡_ {A = ℕ} 0 1 = cc in omega arith)) e in
         let y = is-empty (shortRange keyLimit (x .r)) (notEmpty (x .r)) (rangeBytes (x .r)) (x .so) in
-        refuse s (n .state) (trackRange id bs) (seen-load n) empty (range-empty base (n .state) id bs h (x .r) (x .is) (y .0) (y .1))
+        refuse s (n .state) (trackRange id bs) (seen-load n) emptyRange (range-empty base (n .state) id bs h (x .r) (x .is) (y .0) (y .1))
 
     module _ {k : ℕ} (g : Judged.Good k ≡ judged (boundsOf bs)) where
       said : Said (boundsOf bs) (Judged.Good k)

@@ -20,7 +20,7 @@ use Rattle.tracks.specs.declared.range.Judged.{Judged}
 -- "First in this order wins: .. 2, 4, 5"
 abbrev pub judged : Option Range → Judged
 judged none = Judged.Malformed
-judged (some r) = cond (shortRange keyLimit r) (cond (notEmpty r) (Judged.Good (rangeBytes r)) Judged.Empty) Judged.Long
+judged (some r) = cond (shortRange keyLimit r) (cond (notEmpty r) (Judged.Good (rangeBytes r)) Judged.EmptyRange) Judged.LongKey
 
 -- a transaction stands from txn up to end in the used bytes, and the bounds find room behind those
 pub record Appendable (s : Bytes) (used txn end : ℕ) (bounds : Bytes) : Type 0 where

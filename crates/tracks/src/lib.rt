@@ -109,7 +109,7 @@ pub fn track_keys(room: &mut [u8], v: View, which: Which, id: &[u8], list: &[u8]
             }
             Place::Before(_) => return Answer::ABSENT,
         },
-        Form::Long => return Answer::LONG,
+        Form::LongKey => return Answer::LONG_KEY,
         Form::Malformed => return Answer::MALFORMED,
     }
 }

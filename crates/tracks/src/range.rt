@@ -25,8 +25,8 @@ use room::ceilings::MARK_LIMIT;
 // Document 01's verdict on bounds: a range with so many key bytes, an empty one (5), a key over the limit (4), badly formed (2).
 enum Judged {
     Good(usize),
-    Empty,
-    Long,
+    EmptyRange,
+    LongKey,
     Malformed,
 }
 
@@ -42,7 +42,7 @@ fn check_range(bounds: &[u8]) -> Judged
             let start_size = start_to - start_from;
             let end_size = end_to - end_from;
             if KEY_LIMIT < start_size || KEY_LIMIT < end_size {
-                return Judged::Long;
+                return Judged::LongKey;
             }
             let start = p.start;
             let end = p.end;
@@ -50,7 +50,7 @@ fn check_range(bounds: &[u8]) -> Judged
             if range.non_empty(&bounds[start_from..start_to], &bounds[end_from..end_to]) {
                 return Judged::Good(start_size + end_size);
             }
-            Judged::Empty
+            Judged::EmptyRange
         }
         ReadBounds::NoBounds => Judged::Malformed,
     }
@@ -94,8 +94,8 @@ pub fn track_range(room: &mut [u8], v: View, id: &[u8], bounds: &[u8]) -> Answer
             }
             Place::Before(_) => return Answer::ABSENT,
         },
-        Judged::Empty => return Answer::EMPTY,
-        Judged::Long => return Answer::LONG,
+        Judged::EmptyRange => return Answer::EMPTY_RANGE,
+        Judged::LongKey => return Answer::LONG_KEY,
         Judged::Malformed => return Answer::MALFORMED,
     }
 }

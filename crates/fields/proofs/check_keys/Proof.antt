@@ -52,10 +52,10 @@ enum-told : tie.Need-enum-told Inv-loop μ-loop
 enum-told c = search needs
 
 returns : tie.Need-returns Inv-loop μ-loop
-returns c = sym (c .before .before .before .before .loop .inv ∙ form-end _ _ _ (rw (c .before .enum-told .given .1) at (c .before .before .before .next-key .ensures)) ∙ ap (λ b. cond b Form.Good Form.Long) (c .if2 .taken))
+returns c = sym (c .before .before .before .before .loop .inv ∙ form-end _ _ _ (rw (c .before .enum-told .given .1) at (c .before .before .before .next-key .ensures)) ∙ ap (λ b. cond b Form.Good Form.LongKey) (c .if2 .taken))
 
 returns-2 : tie.Need-returns-2 Inv-loop μ-loop
-returns-2 c = sym (c .before .before .before .before .loop .inv ∙ form-end _ _ _ (rw (c .before .enum-told .given .1) at (c .before .before .before .next-key .ensures)) ∙ ap (λ b. cond b Form.Good Form.Long) (c .if2 .left))
+returns-2 c = sym (c .before .before .before .before .loop .inv ∙ form-end _ _ _ (rw (c .before .enum-told .given .1) at (c .before .before .before .next-key .ensures)) ∙ ap (λ b. cond b Form.Good Form.LongKey) (c .if2 .left))
 
 enum-told-2 : tie.Need-enum-told-2 Inv-loop μ-loop
 enum-told-2 c = search needs

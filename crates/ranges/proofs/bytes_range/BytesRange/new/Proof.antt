@@ -5,7 +5,7 @@ use mathlib.Core.Bool.{Bool, true, false, cond}
 use denote.Ref.{now}
 use Rattle.kinds.specs.Bounds.{bound}
 use Rattle.bounds.specs.Ranges.{range, notEmptyPair}
-use Rattle.ranges.specs.declared.made.Making.the-variants.{Done, Empty}
+use Rattle.ranges.specs.declared.made.Making.the-variants.{Done, EmptyRange}
 use Rattle.ranges.specs.Making.{newOf}
 use Rattle.ranges.proofs.MakingLaws.{new-by}
 use Rattle.ranges.proofs.bytes_range.BytesRange.new.Statement.{statement}
@@ -15,7 +15,7 @@ abbrev start : tie.After-too-long → tie.Start
 start c = c .before .before .before
 
 -- past the two tests neither key is over the limit, and emptiness is judged
-judged : (c : tie.After-non-empty) (b : Bool) → c .non-empty .result ≡ b → let x = start (c .before .before .before .before .before) .args in cond b Done Empty ≡ newOf (range (bound (x .start) (now (x .start-key))) (bound (x .end) (now (x .end-key))))
+judged : (c : tie.After-non-empty) (b : Bool) → c .non-empty .result ≡ b → let x = start (c .before .before .before .before .before) .args in cond b Done EmptyRange ≡ newOf (range (bound (x .start) (now (x .start-key))) (bound (x .end) (now (x .end-key))))
 judged c b e =
     let two = c .before .before in
     let one = two .before .before in
