@@ -9,3 +9,4 @@ pub mod FoundLaws
 pub mod LeftLaws
 pub mod AdvanceLaws
 pub mod OneReply
+pub mod SaidLaws

@@ -1,4 +1,5 @@
 // What a call on a room answers.
+ghost use Rattle.answers.specs.Says.{Says};
 
 // Document 01's status and value.
 #[repr(C)]
@@ -7,12 +8,19 @@ pub struct Answer {
     pub value: u64,
 }
 
-// The answers without a value.
+// An answer is done or absent, with the call's own value, or a refusal, which has none.
 impl Answer {
-    pub const ABSENT: Self = Answer {
-        status: 1,
-        value: 0,
-    };
+    pub fn done(value: u64) -> Self
+        ensures { λ r. ⌜ Says r 0 value ⌝ }
+    {
+        Answer { status: 0, value }
+    }
+
+    pub fn absent(value: u64) -> Self
+        ensures { λ r. ⌜ Says r 1 value ⌝ }
+    {
+        Answer { status: 1, value }
+    }
 
     pub const MALFORMED: Self = Answer {
         status: 2,

@@ -33,7 +33,7 @@ fn enter_keys(room: &mut [u8], v: View, seq: u64, list: &[u8]) -> Answer
             put_entry(room, v.used, v.middle, seq, &draft[0..end]);
             write_two(room, ENTRY_COUNT, v.entries + 1);
             let value = advance_committed_seq(room, seq);
-            Answer { status: 0, value }
+            Answer::done(value)
         }
         Drafted::Full => Answer::FULL,
     }
@@ -51,7 +51,7 @@ pub fn batch_entry(room: &mut [u8], v: View, seq: u64, list: &[u8]) -> Answer
             if v.active == 0 {
                 let value = larger(v.last, seq);
                 empty_recent_committed_txns(room, value);
-                return Answer { status: 0, value };
+                return Answer::done(value);
             }
             if ENTRY_LIMIT <= v.entries {
                 return Answer::FULL;

@@ -54,7 +54,7 @@ pub fn commit_active(room: &mut [u8], v: View, id: &[u8], seq: u64) -> Answer
             if active == 1 {
                 let value = larger(v.last, seq);
                 empty_recent_committed_txns(room, value);
-                return Answer { status: 0, value };
+                return Answer::done(value);
             }
             if ENTRY_LIMIT <= entries {
                 return Answer::FULL;
@@ -63,11 +63,11 @@ pub fn commit_active(room: &mut [u8], v: View, id: &[u8], seq: u64) -> Answer
             write_two(room, ENTRY_COUNT, entries + 1);
             write_two(room, ACTIVE_COUNT, active - 1);
             let value = advance_committed_seq(room, seq);
-            Answer { status: 0, value }
+            Answer::done(value)
         }
         Place::Before(_) => {
             let value = advance_committed_seq(room, seq);
-            Answer { status: 1, value }
+            Answer::absent(value)
         }
     }
 }

@@ -38,17 +38,11 @@ pub fn drop_active(room: &mut [u8], v: View, id: &[u8]) -> Answer
                 middle,
                 used - gone,
             );
-            Answer {
-                status: 0,
-                value: kept as u64,
-            }
+            Answer::done(kept as u64)
         }
         Place::Before(_) => {
             let kept = recycle_recent_committed_txns(room, last, entries, active, middle, used);
-            Answer {
-                status: 1,
-                value: kept as u64,
-            }
+            Answer::absent(kept as u64)
         }
     }
 }

@@ -23,7 +23,7 @@ fn serve(room: &mut [u8], ask: Ask, id: &[u8], bytes: &[u8], seq: u64) -> Answer
 {
     match open(room) {
         Opened::Of(view) => match ask {
-            Ask::Begin => starts::begin(room, view, id),
+            Ask::Begin => begins::begin(room, view, id),
             Ask::Keys(which) => tracks::track_keys(room, view, which, id, bytes),
             Ask::Range => tracks::range::track_range(room, view, id, bytes),
             Ask::Commit => commits::commit::commit_active(room, view, id, seq),
@@ -38,7 +38,7 @@ fn serve(room: &mut [u8], ask: Ask, id: &[u8], bytes: &[u8], seq: u64) -> Answer
 pub fn new(room: &mut [u8], last: u64) -> Answer
     ensures { λ r. ⌜ Served (now (room .entry)) (fresh last) (r .status) (r .value) (now (room .exit)) ⌝ }
 {
-    starts::make_fresh(room, last)
+    begins::make_fresh(room, last)
 }
 
 pub fn new_transaction(room: &mut [u8], id: &[u8]) -> Answer
@@ -75,7 +75,7 @@ pub fn check_has_conflict(room: &[u8], id: &[u8]) -> Answer
     ensures { λ r. ⌜ Served (now (room .entry)) (on (check (now (id .entry)))) (r .status) (r .value) (now (room .entry)) ⌝ }
 {
     match open(room) {
-        Opened::Of(view) => starts::check(room, view, id),
+        Opened::Of(view) => queries::check(room, view, id),
         Opened::Bad => Answer::NO_STATE,
     }
 }
@@ -96,7 +96,7 @@ pub fn min_active_seq(room: &[u8]) -> Answer
     ensures { λ r. ⌜ Served (now (room .entry)) (on minimum) (r .status) (r .value) (now (room .entry)) ⌝ }
 {
     match open(room) {
-        Opened::Of(view) => starts::minimum(room, view),
+        Opened::Of(view) => queries::minimum(room, view),
         Opened::Bad => Answer::NO_STATE,
     }
 }

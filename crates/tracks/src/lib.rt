@@ -98,16 +98,11 @@ pub fn track_keys(room: &mut [u8], v: View, which: Which, id: &[u8], list: &[u8]
                     MARK_LIMIT - marks,
                     BYTE_LIMIT - bytes,
                 ) {
-                    Grown::New(n) => {
-                        return Answer {
-                            status: 0,
-                            value: n as u64,
-                        };
-                    }
+                    Grown::New(n) => return Answer::done(n as u64),
                     Grown::Full => return Answer::FULL,
                 }
             }
-            Place::Before(_) => return Answer::ABSENT,
+            Place::Before(_) => return Answer::absent(0),
         },
         Form::LongKey => return Answer::LONG_KEY,
         Form::Malformed => return Answer::MALFORMED,

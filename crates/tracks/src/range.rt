@@ -87,12 +87,9 @@ pub fn track_range(room: &mut [u8], v: View, id: &[u8], bounds: &[u8]) -> Answer
                     return Answer::FULL;
                 }
                 append_range(room, used, at, end, bounds);
-                return Answer {
-                    status: 0,
-                    value: 1,
-                };
+                return Answer::done(1);
             }
-            Place::Before(_) => return Answer::ABSENT,
+            Place::Before(_) => return Answer::absent(0),
         },
         Judged::EmptyRange => return Answer::EMPTY_RANGE,
         Judged::LongKey => return Answer::LONG_KEY,

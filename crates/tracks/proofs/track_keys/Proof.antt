@@ -9,6 +9,7 @@ use Rattle.fields.specs.Fields.{keyList}
 use Rattle.fields.specs.Forms.{formOf}
 use Rattle.places.specs.declared.finds.Place.{Place}
 use Rattle.places.specs.Finds.{Found}
+use Rattle.answers.proofs.SaidLaws.{said}
 use Rattle.answers.proofs.SeenLaws.{active-rows}
 use Rattle.answers.proofs.FoundLaws.{within, txn-here}
 use Rattle.tracks.proofs.KeysLaws.{keys-refused, keys-too-long, keys-absent, growable, keys-full, keys-done}
@@ -90,11 +91,14 @@ grow-set-requires c κs = growable (start-grow-set-arg c .pre) (start-grow-set-a
 enum-known-n : tie.Need-enum-known-n
 enum-known-n c = search needs
 
+done-requires : tie.Need-done-requires
+done-requires c κs = search needs
+
 same-length : tie.Need-same-length
 same-length c = search needs
 
 returns-2 : tie.Need-returns-2
-returns-2 c = keys-done (start-grow-set (c .before .before .before .before .before) .pre) (start-grow-set (c .before .before .before .before .before) .args .which) (now (start-grow-set (c .before .before .before .before .before) .args .id)) (now (start-grow-set (c .before .before .before .before .before) .args .list)) (is-id (before-enum-told (before-at (before-set-at (before-grow-set-arg (before-grow-set (c .before .before .before .before .before))))))) (good (before-at (before-set-at (before-grow-set-arg (before-grow-set (c .before .before .before .before .before)))))) (found (before-set-at (before-grow-set-arg (before-grow-set (c .before .before .before .before .before))))) (before-grow-set-arg (before-grow-set (c .before .before .before .before .before)) .set-at .ensures) (rw (c .before .n .given .1) at (c .before .before .before .before .before .grow-set .ensures))
+returns-2 c = said (c .done .ensures) (keys-done (start-grow-set (c .before .before .before .before .before .before) .pre) (start-grow-set (c .before .before .before .before .before .before) .args .which) (now (start-grow-set (c .before .before .before .before .before .before) .args .id)) (now (start-grow-set (c .before .before .before .before .before .before) .args .list)) (is-id (before-enum-told (before-at (before-set-at (before-grow-set-arg (before-grow-set (c .before .before .before .before .before .before))))))) (good (before-at (before-set-at (before-grow-set-arg (before-grow-set (c .before .before .before .before .before .before)))))) (found (before-set-at (before-grow-set-arg (before-grow-set (c .before .before .before .before .before .before))))) (before-grow-set-arg (before-grow-set (c .before .before .before .before .before .before)) .set-at .ensures) (rw (c .before .before .n .given .1) at (c .before .before .before .before .before .before .grow-set .ensures)))
 
 enum-told-2 : tie.Need-enum-told-2
 enum-told-2 c = search needs
@@ -108,11 +112,14 @@ returns-3 c = keys-full (start-grow-set (c .before .before .before .before) .pre
 enum-told-3 : tie.Need-enum-told-3
 enum-told-3 c = search needs
 
+absent-requires : tie.Need-absent-requires
+absent-requires c κs = search needs
+
 same-length-3 : tie.Need-same-length-3
 same-length-3 c = search needs
 
 returns-4 : tie.Need-returns-4
-returns-4 c = keys-absent (start-enum-told (c .before .before .before .before) .pre) (start-enum-told (c .before .before .before .before) .args .which) (now (start-enum-told (c .before .before .before .before) .args .id)) (now (start-enum-told (c .before .before .before .before) .args .list)) (is-id (before-enum-told (c .before .before .before .before))) (good (c .before .before .before .before)) (rw (c .enum-told3 .given .1) at (c .before .before .find-txn .ensures))
+returns-4 c = said (c .absent .ensures) (keys-absent (start-enum-told (c .before .before .before .before .before) .pre) (start-enum-told (c .before .before .before .before .before) .args .which) (now (start-enum-told (c .before .before .before .before .before) .args .id)) (now (start-enum-told (c .before .before .before .before .before) .args .list)) (is-id (before-enum-told (c .before .before .before .before .before))) (good (c .before .before .before .before .before)) (rw (c .before .enum-told3 .given .1) at (c .before .before .before .find-txn .ensures)))
 
 enum-told-4 : tie.Need-enum-told-4
 enum-told-4 c = search needs
@@ -140,12 +147,14 @@ track-keys-spec =
     sub-grow-set-2
     grow-set-requires
     enum-known-n
+    done-requires
     same-length
     returns-2
     enum-told-2
     same-length-2
     returns-3
     enum-told-3
+    absent-requires
     same-length-3
     returns-4
     enum-told-4

@@ -1,4 +1,5 @@
 -- Each way that a batch ends before its keys are looked at has its law.
+use Rattle.answers.proofs.SaidLaws.{said}
 use Rattle.commits.proofs.BatchLaws.{batch-no-list, batch-over-long, batch-nobody, batch-many, entering}
 use mathlib.Core.Path.{sym, _∙_}
 use native.Mathlib.Omega.{arith}
@@ -30,11 +31,14 @@ larger-requires c κs = search needs
 empty-recent-committed-txns-requires : tie.Need-empty-recent-committed-txns-requires
 empty-recent-committed-txns-requires c κs = search needs
 
+done-requires : tie.Need-done-requires
+done-requires c κs = search needs
+
 same-length : tie.Need-same-length
 same-length c = search needs
 
 returns-3 : tie.Need-returns-3
-returns-3 c = batch-nobody (c .before .before .before .before .before .before .before .before .before .before .before .before .pre) (sym (c .before .before .before .before .before .before .before .enum-told3 .given .1) ∙ c .before .before .before .before .before .before .before .before .before .check-keys .ensures) (c .before .before .before .before .before .if1 .taken) (c .before .before .before .before .larger .ensures) (c .before .before .empty-recent-committed-txns .ensures) (omega (arith, c .before .before .before .before .before .before .before .before .before .before .before .before .fits .seq))
+returns-3 c = said (c .done .ensures) (batch-nobody (c .before .before .before .before .before .before .before .before .before .before .before .before .before .pre) (sym (c .before .before .before .before .before .before .before .before .enum-told3 .given .1) ∙ c .before .before .before .before .before .before .before .before .before .before .check-keys .ensures) (c .before .before .before .before .before .before .if1 .taken) (c .before .before .before .before .before .larger .ensures) (c .before .before .before .empty-recent-committed-txns .ensures) (omega (arith, c .before .before .before .before .before .before .before .before .before .before .before .before .before .fits .seq)))
 
 returns-4 : tie.Need-returns-4
 returns-4 c = batch-many (c .before .before .before .before .before .before .before .before .before .pre) (sym (c .before .before .before .before .enum-told3 .given .1) ∙ c .before .before .before .before .before .before .check-keys .ensures) (omega (arith, c .before .before .if1 .left)) (omega (arith, c .if2 .taken))
@@ -60,6 +64,7 @@ batch-entry-spec =
     enum-told-3
     larger-requires
     empty-recent-committed-txns-requires
+    done-requires
     same-length
     returns-3
     returns-4

@@ -1,4 +1,5 @@
 -- The draft holds the set of the list's keys within what the totals leave, or the batch is refused.
+use Rattle.answers.proofs.SaidLaws.{said}
 use Rattle.answers.proofs.FoundLaws.{within}
 use Rattle.tracks.proofs.DraftLaws.{zeros, zeros-long}
 use Rattle.commits.proofs.BatchLaws.{begun, set-inside, batch-room, room-for-last, batch-entered, batch-over}
@@ -52,6 +53,9 @@ write-two-requires c κs = search needs
 advance-committed-seq-requires : tie.Need-advance-committed-seq-requires
 advance-committed-seq-requires c κs = room-for-last _ (c .before .before .before .before .before .before .before .before .before .before .before .before .before .before .before .before .before .before .before .before .before .before .pre .0) (c .before .before .before .before .before .before .before .before .put-entry .ensures) (c .before .before .before .write-two .ensures)
 
+done-requires : tie.Need-done-requires
+done-requires c κs = search needs
+
 enum-told : tie.Need-enum-told
 enum-told c = search needs
 
@@ -59,7 +63,7 @@ same-length : tie.Need-same-length
 same-length c = search needs
 
 returns : tie.Need-returns
-returns c = batch-entered (c .before .before .before .before .before .before .before .before .before .before .before .before .before .before .before .before .before .before .before .before .before .before .before .before .before .pre .0) (c .before .before .before .before .before .before .before .before .before .before .before .before .before .before .before .before .before .before .before .before .before .before .before .before .before .pre .1) (drafted (c .before .before .before .before .before .before .before .before .before .before .before .before .before .before .before .before)) (c .before .before .before .before .before .before .before .before .before .before .before .put-entry .ensures) (c .before .before .before .before .before .before .write-two .ensures) (c .before .before .advance-committed-seq .ensures) (omega (arith, c .before .before .before .before .before .before .before .before .before .before .before .before .before .before .before .before .before .before .before .before .before .before .before .before .before .fits .seq))
+returns c = said (c .done .ensures) (batch-entered (c .before .before .before .before .before .before .before .before .before .before .before .before .before .before .before .before .before .before .before .before .before .before .before .before .before .before .pre .0) (c .before .before .before .before .before .before .before .before .before .before .before .before .before .before .before .before .before .before .before .before .before .before .before .before .before .before .pre .1) (drafted (c .before .before .before .before .before .before .before .before .before .before .before .before .before .before .before .before .before)) (c .before .before .before .before .before .before .before .before .before .before .before .before .put-entry .ensures) (c .before .before .before .before .before .before .before .write-two .ensures) (c .before .before .before .advance-committed-seq .ensures) (omega (arith, c .before .before .before .before .before .before .before .before .before .before .before .before .before .before .before .before .before .before .before .before .before .before .before .before .before .before .fits .seq)))
 
 returns-2 : tie.Need-returns-2
 returns-2 c = batch-over (c .before .before .before .before .before .before .before .before .before .pre .0) (c .before .before .before .before .before .before .before .before .before .pre .1) (rw (c .enum-told .given .1) at (c .before .before .before .draft-keys .ensures))
@@ -80,6 +84,7 @@ enter-keys-spec =
     add-write-two
     write-two-requires
     advance-committed-seq-requires
+    done-requires
     enum-told
     same-length
     returns

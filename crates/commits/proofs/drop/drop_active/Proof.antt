@@ -1,4 +1,5 @@
 -- With the id taken out if it is there, what stands can be pruned, and the pruned state is the machine's.
+use Rattle.answers.proofs.SaidLaws.{said}
 use Rattle.answers.proofs.SeenLaws.{active-rows}
 use Rattle.commits.proofs.DropLaws.{drop-refused, drop-unknown, drop-prunable, drop-known}
 use Rattle.answers.proofs.LeftLaws.{Bounds, here-bounds}
@@ -48,23 +49,29 @@ sub-recycle-recent-committed-txns-2 c = omega (arith, bounds (c .before .before 
 recycle-recent-committed-txns-requires : tie.Need-recycle-recent-committed-txns-requires
 recycle-recent-committed-txns-requires c κs = drop-prunable (c .before .before .before .before .before .before .before .before .before .before .before .before .before .before .before .before .before .pre) (c .before .before .before .before .before .before .before .before .before .before .before .before .before .before .if1 .left) (found (c .before .before .before .before .before .before .before .before .before .before)) (c .before .before .before .before .before .before .before .remove .ensures) (c .before .before .before .write-two .ensures)
 
+done-requires : tie.Need-done-requires
+done-requires c κs = search needs
+
 enum-told : tie.Need-enum-told
 enum-told c = search needs
 
 recycle-recent-committed-txns-requires-2 : tie.Need-recycle-recent-committed-txns-requires-2
 recycle-recent-committed-txns-requires-2 c κs = seen-prunable (c .before .before .before .before .before .before .before .before .pre)
 
+absent-requires : tie.Need-absent-requires
+absent-requires c κs = search needs
+
 same-length : tie.Need-same-length
 same-length c = search needs
 
 returns-2 : tie.Need-returns-2
-returns-2 c = drop-known (c .before .before .before .before .before .before .before .before .before .before .before .before .before .before .before .before .before .before .before .before .pre) (c .before .before .before .before .before .before .before .before .before .before .before .before .before .before .before .before .before .if1 .left) (found (c .before .before .before .before .before .before .before .before .before .before .before .before .before)) (c .before .before .before .before .before .before .before .before .before .before .remove .ensures) (c .before .before .before .before .before .before .write-two .ensures) (c .before .before .recycle-recent-committed-txns .ensures)
+returns-2 c = said (c .done .ensures) (drop-known (c .before .before .before .before .before .before .before .before .before .before .before .before .before .before .before .before .before .before .before .before .before .pre) (c .before .before .before .before .before .before .before .before .before .before .before .before .before .before .before .before .before .before .if1 .left) (found (c .before .before .before .before .before .before .before .before .before .before .before .before .before .before)) (c .before .before .before .before .before .before .before .before .before .before .before .remove .ensures) (c .before .before .before .before .before .before .before .write-two .ensures) (c .before .before .before .recycle-recent-committed-txns .ensures))
 
 same-length-2 : tie.Need-same-length-2
 same-length-2 c = search needs
 
 returns-3 : tie.Need-returns-3
-returns-3 c = drop-unknown (c .before .before .before .before .before .before .before .before .before .before .before .pre) (c .before .before .before .before .before .before .before .before .if1 .left) (rw (c .before .before .before .before .enum-told .given .1) at (c .before .before .before .before .before .before .find-txn .ensures)) (c .before .before .recycle-recent-committed-txns2 .ensures)
+returns-3 c = said (c .absent .ensures) (drop-unknown (c .before .before .before .before .before .before .before .before .before .before .before .before .pre) (c .before .before .before .before .before .before .before .before .before .if1 .left) (rw (c .before .before .before .before .before .enum-told .given .1) at (c .before .before .before .before .before .before .before .find-txn .ensures)) (c .before .before .before .recycle-recent-committed-txns2 .ensures))
 
 pub drop-active-spec : {M : Type 1} → statement M
 drop-active-spec =
@@ -80,8 +87,10 @@ drop-active-spec =
     sub-recycle-recent-committed-txns
     sub-recycle-recent-committed-txns-2
     recycle-recent-committed-txns-requires
+    done-requires
     enum-told
     recycle-recent-committed-txns-requires-2
+    absent-requires
     same-length
     returns-2
     same-length-2

@@ -11,6 +11,7 @@ use Rattle.places.specs.declared.finds.Place.{Place}
 use Rattle.places.specs.Finds.{Found}
 use Rattle.tracks.specs.declared.range.Judged.{Judged}
 use Rattle.tracks.specs.Ranges.{judged}
+use Rattle.answers.proofs.SaidLaws.{said}
 use Rattle.answers.proofs.SeenLaws.{active-rows}
 use Rattle.answers.proofs.FoundLaws.{within}
 use Rattle.tracks.proofs.RangeLaws.{range-refused, range-too-long, range-is-empty, range-absent, range-full, appendable, range-done}
@@ -80,20 +81,26 @@ returns-2 c = range-full (start-at (c .before .before) .pre) (now (start-at (c .
 append-range-requires : tie.Need-append-range-requires
 append-range-requires c κs = appendable (start-else2 (c .before .before) .pre) (now (start-else2 (c .before .before) .args .id)) (now (start-else2 (c .before .before) .args .bounds)) (is-id (before-size (before-at (before-else2 (c .before .before))))) (good (before-at (before-else2 (c .before .before)))) (found (c .before .before .before .before)) (small (before-size (before-at (before-else2 (c .before .before))))) (omega (arith, c .before .before .if2 .left)) (ltb-false _ _ (c .before .if3 .left))
 
+done-requires : tie.Need-done-requires
+done-requires c κs = search needs
+
 same-length-2 : tie.Need-same-length-2
 same-length-2 c = search needs
 
 returns-3 : tie.Need-returns-3
-returns-3 c = range-done (start-else2 (c .before .before .before .before .before) .pre) (now (start-else2 (c .before .before .before .before .before) .args .id)) (now (start-else2 (c .before .before .before .before .before) .args .bounds)) (is-id (before-size (before-at (before-else2 (c .before .before .before .before .before))))) (good (before-at (before-else2 (c .before .before .before .before .before)))) (found (before-else2 (c .before .before .before .before .before))) (small (before-size (before-at (before-else2 (c .before .before .before .before .before))))) (omega (arith, c .before .before .before .before .before .if2 .left)) (ltb-false _ _ (c .before .before .before .before .if3 .left)) (c .before .before .append-range .ensures)
+returns-3 c = said (c .done .ensures) (range-done (start-else2 (c .before .before .before .before .before .before) .pre) (now (start-else2 (c .before .before .before .before .before .before) .args .id)) (now (start-else2 (c .before .before .before .before .before .before) .args .bounds)) (is-id (before-size (before-at (before-else2 (c .before .before .before .before .before .before))))) (good (before-at (before-else2 (c .before .before .before .before .before .before)))) (found (before-else2 (c .before .before .before .before .before .before))) (small (before-size (before-at (before-else2 (c .before .before .before .before .before .before))))) (omega (arith, c .before .before .before .before .before .before .if2 .left)) (ltb-false _ _ (c .before .before .before .before .before .if3 .left)) (c .before .before .before .append-range .ensures))
 
 enum-told : tie.Need-enum-told
 enum-told c = search needs
+
+absent-requires : tie.Need-absent-requires
+absent-requires c κs = search needs
 
 same-length-3 : tie.Need-same-length-3
 same-length-3 c = search needs
 
 returns-4 : tie.Need-returns-4
-returns-4 c = range-absent (start-size (c .before .before .before .before .before) .pre) (now (start-size (c .before .before .before .before .before) .args .id)) (now (start-size (c .before .before .before .before .before) .args .bounds)) (is-id (before-size (c .before .before .before .before .before))) (good (c .before .before .before .before .before)) (rw (c .enum-told .given .1) at (c .before .before .find-txn .ensures))
+returns-4 c = said (c .absent .ensures) (range-absent (start-size (c .before .before .before .before .before .before) .pre) (now (start-size (c .before .before .before .before .before .before) .args .id)) (now (start-size (c .before .before .before .before .before .before) .args .bounds)) (is-id (before-size (c .before .before .before .before .before .before))) (good (c .before .before .before .before .before .before)) (rw (c .before .enum-told .given .1) at (c .before .before .before .find-txn .ensures)))
 
 enum-told-2 : tie.Need-enum-told-2
 enum-told-2 c = search needs
@@ -126,9 +133,11 @@ track-range-spec =
     same-length
     returns-2
     append-range-requires
+    done-requires
     same-length-2
     returns-3
     enum-told
+    absent-requires
     same-length-3
     returns-4
     enum-told-2

@@ -1,17 +1,16 @@
--- Each way that fresh, begin, check and minimum end.
+-- Each way that fresh and begin end.
 use Prim.Native.Nat.{ℕ, _+_, _≤_, _<_, _^_}
 use mathlib.Core.Path.{_≡_, refl, sym, ap, _∙_, subst}
-use mathlib.Core.Bool.{Bool}
-use mathlib.Core.List.{List, [], _∷_}
+use mathlib.Core.List.{List}
 use native.Mathlib.Omega.{arith}
 use mathlib.Core.Option.{none}
 use lib.ListN.{length, drop, length-append}
 use lib.Seq.{paste}
-use Rattle.machine.specs.State.{Bytes, Txn, base, TxnOk, Fits}
-use Rattle.machine.specs.Lists.{sum, All}
-use Rattle.machine.specs.Sets.{put, find, leastOf, conflict}
-use Rattle.machine.specs.Calls.{on, begin, check, minimum, malformed, again, full, fresh}
-use Rattle.machine.specs.Serve.{newTxn, verdict}
+use Rattle.machine.specs.State.{Bytes, Txn, base, Fits}
+use Rattle.machine.specs.Lists.{sum}
+use Rattle.machine.specs.Sets.{put, find}
+use Rattle.machine.specs.Calls.{on, begin, malformed, again, full, fresh}
+use Rattle.machine.specs.Serve.{newTxn}
 use Rattle.machine.proofs.ActiveLaws.{put-new-length, put-all}
 use Rattle.codec.specs.Codec.{item}
 use Rattle.codec.specs.Formats.{number}
@@ -25,20 +24,18 @@ use Rattle.layout.specs.Places.{Here}
 use Rattle.layout.proofs.RowLaws.{row-end, row-inside, write-append}
 use Rattle.layout.proofs.SizeLaws.{txn-length, ids-long, fits-size, state-length}
 use Rattle.layout.proofs.HoldLaws.{base-small}
-use Rattle.layout.proofs.LoadLaws.{refuse, look, look-absent, change, make-fresh}
+use Rattle.layout.proofs.LoadLaws.{refuse, change, make-fresh}
 use Rattle.edits.specs.Laid.{entriesOf, activeOf}
 use Rattle.edits.specs.Edits.{Freshened}
 use Rattle.edits.proofs.LaidLaws.{relaid, laid-used, laid-active, laid-end, laid-number}
 use Rattle.edits.proofs.ChangeLaws.{fresh-changed, active-split, laid-put}
 use Rattle.places.specs.declared.finds.Place.{Place}
-use Rattle.places.specs.Finds.{Found, HereIn, BeforeIn, LowestIs, lowest}
+use Rattle.places.specs.Finds.{Found, HereIn, BeforeIn}
 use Rattle.places.proofs.FindLaws.{here-finds, before-finds, before-puts}
-use Rattle.places.proofs.LowLaws.{lowest-least}
-use Rattle.search.specs.Search.{Searched}
 use Rattle.room.specs.declared.View.{View}
 use Rattle.room.specs.Views.{Seen}
-use Rattle.answers.proofs.StateLaws.{none-left, begun, begin-malformed, begin-again, begin-full, begin-fits, begin-done, check-malformed, check-absent, check-done, minimum-nobody, minimum-done}
-use Rattle.answers.proofs.SeenLaws.{seen-load, seen-held, seen-laid, entry-row, active-row, found-in}
+use Rattle.answers.proofs.StateLaws.{begun, begin-malformed, begin-again, begin-full, begin-fits, begin-done}
+use Rattle.answers.proofs.SeenLaws.{seen-load, seen-held, seen-laid, found-in}
 
 pub fresh-made : {s s' : List ℕ} {n : ℕ} → roomSize base ≤ length s → Freshened s n s' → n < 256 ^ 8 → Served s (fresh n) 0 n s'
 fresh-made {s} {s'} {n} h e l = make-fresh base base-small s s' n h (fresh-changed h e l)
@@ -51,8 +48,6 @@ number-is : {s : List ℕ} {a b : ℕ} → Stands (number numberSize) s lastAt a
 number-is {s} {a} {b} p q = let g : item b (drop partAt s) ≡ item a (drop partAt s) = sym (q .reads) ∙ p .reads in cc g
 
 module _ (s : List ℕ) (v : View) (id : Bytes) (w : Seen s v) where
-  -- ---- begin
-
   pub begins-malformed : (length id ≡ idSize → ⊥) → Served s (on (begin id)) 2 0 s
   begins-malformed h = refuse s (w .state) (begin id) (seen-load w) malformed (begin-malformed base (w .state) id h)
 
@@ -70,9 +65,6 @@ module _ (s : List ℕ) (v : View) (id : Bytes) (w : Seen s v) where
 
     pub begins-full : base .active ≤ v .active → Served s (on (begin id)) 6 0 s
     begins-full k = refuse s (w .state) (begin id) (seen-load w) full (begin-full base (w .state) id h unknown (omega (arith, w .active)))
-
-    pub checks-absent : Served s (on (check id)) 1 0 s
-    checks-absent = look-absent s (w .state) (check id) (seen-load w) 0 (check-absent base (w .state) id h unknown)
 
     -- where the new one goes
     place-at : p ≡ entriesAt + (length (entriesOf (w .state .entries)) + length (activeOf (place .front)))
@@ -112,37 +104,3 @@ module _ (s : List ℕ) (v : View) (id : Bytes) (w : Seen s v) where
               let v3 = relaid refl (ap (λ (k : ℕ). setActiveCount k (headsOf (w .state))) c) refl (sym (ap activeOf (before-puts place t refl))) v2 in
               change s s2 (w .state) (begun base (w .state) id) (begin id) (seen-load w) (laid-end (begun base (w .state) id) v3 (seen-held w .last)) (w .state .last)
               (begin-done base (w .state) id h unknown (omega (arith, w .active)) (seen-held w .kept .ceilings))
-
-  -- ---- check
-
-  pub checks-malformed : (length id ≡ idSize → ⊥) → Served s (on (check id)) 2 0 s
-  checks-malformed h = refuse s (w .state) (check id) (seen-load w) malformed (check-malformed base (w .state) id h)
-
-  module _ {p q : ℕ} (f : Found s (v .middle) (v .active) id (Place.Here p q)) where
-    found : HereIn s (v .middle) id (w .state .active) (v .used) p q
-    found = found-in w id (Place.Here p q) f
-
-    pub found-here : Here (txnForm (base .key)) s p
-    found-here = record { val = found .one; end = q; part = found .part }
-
-    pub checks : {b : Bool} → length id ≡ idSize → Searched s entriesAt (v .entries) p b → Served s (on (check id)) 0 (verdict b) s
-    checks {b} h r =
-        let e : b ≡ conflict (found .one) (w .state .entries) = r .is (w .state .entries) (v .middle) (found .one) q (entry-row w) (sym (w .entries)) (found .part) in
-        subst (λ (x : Bool). Served s (on (check id)) 0 (verdict x) s) (sym e) (look s (w .state) (check id) (seen-load w) (verdict (conflict (found .one) (w .state .entries))) (check-done base (w .state) id (found .one) h (here-finds found)))
-
--- ---- minimum
-
-module _ {s : List ℕ} {v : View} (w : Seen s v) where
-  pub nobody : v .active ≡ 0 → Served s (on minimum) 1 0 s
-  nobody e = look-absent s (w .state) minimum (seen-load w) 0 (minimum-nobody base (w .state) (none-left (w .state .active) (omega (arith, w .active))))
-
-  pub least-is : {r : ℕ} → (v .active ≡ 0 → ⊥) → LowestIs s (v .middle) (v .active) (v .last) r → Served s (on minimum) 0 r s
-  least-is {r} h f = go (w .state .active) refl
-    where
-      go : (ts : List Txn) → w .state .active ≡ ts → Served s (on minimum) 0 r s
-      go [] e = absurd (h (w .active ∙ ap length e))
-      go (t ∷ ts) e =
-          let x : r ≡ lowest (v .last) (t ∷ ts) = f .is (w .state .active) (v .used) (active-row w) (sym (w .active)) ∙ ap (lowest (v .last)) e in
-          let o : TxnOk base (w .state .last) t = subst (All (TxnOk base (w .state .last))) e (seen-held w .kept .txns) .0 in
-          let y : r ≡ leastOf t ts = x ∙ lowest-least (v .last) t ts (omega (arith, o .started, w .last)) in
-          subst (λ (n : ℕ). Served s (on minimum) 0 n s) (sym y) (look s (w .state) minimum (seen-load w) (leastOf t ts) (minimum-done base (w .state) t ts e))
