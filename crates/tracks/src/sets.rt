@@ -77,6 +77,7 @@ pub fn insert_all(
                 }
             },
             NextKey::End => return Inserted::All { used, count },
+            // The list reads to its end, as `Ready` says, so no next key is bad and this arm is never taken.
             NextKey::Bad => return Inserted::Full,
         }
     }

@@ -31,8 +31,18 @@ splice-requires-2 c κs = search needs
 same-length : tie.Need-same-length
 same-length c = search needs
 
+-- from what follows back to the place that it rests on
+abbrev splice-from-slice-known3 : tie.After-slice-known3 → tie.After-splice
+splice-from-slice-known3 c = c .before .before .before .before .before .before
+
+abbrev write-eight-from-slice-known3 : tie.After-slice-known3 → tie.After-write-eight
+write-eight-from-slice-known3 c = c .before .before .before .before .before .before .before .before .before .before
+
+abbrev start-from-slice-known3 : tie.After-slice-known3 → tie.Start
+start-from-slice-known3 c = c .before .before .before .before .before .before .before .before .before .before .before .before .before .before
+
 returns : tie.Need-returns
-returns c = entry-put _ _ _ _ _ _ _ _ (c .before .before .before .before .before .before .before .before .before .before .before .before .before .before .pre .0) (omega arith) (number-written (replicate 8 0) _ _ refl (c .before .before .before .before .before .before .before .before .before .before .write-eight .ensures)) (c .before .before .before .before .before .before .splice .ensures) (c .before .before .splice2 .ensures)
+returns c = entry-put _ _ _ _ _ _ _ _ (start-from-slice-known3 c .pre .0) (omega arith) (number-written (replicate 8 0) _ _ refl (write-eight-from-slice-known3 c .write-eight .ensures)) (splice-from-slice-known3 c .splice .ensures) (c .before .before .splice2 .ensures)
 
 pub put-entry-spec : {M : Type 1} → statement M
 put-entry-spec =

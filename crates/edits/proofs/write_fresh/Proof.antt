@@ -20,8 +20,21 @@ write-two-requires-2 c κs = search needs
 same-length : tie.Need-same-length
 same-length c = search needs
 
+-- from what follows back to the place that it rests on
+abbrev write-eight-from-slice-known5 : tie.After-slice-known5 → tie.After-write-eight
+write-eight-from-slice-known5 c = c .before .before .before .before .before .before .before .before .before .before .before .before .before .before
+
+abbrev write-eight2-from-slice-known5 : tie.After-slice-known5 → tie.After-write-eight2
+write-eight2-from-slice-known5 c = c .before .before .before .before .before .before .before .before .before .before
+
+abbrev write-two-from-slice-known5 : tie.After-slice-known5 → tie.After-write-two
+write-two-from-slice-known5 c = c .before .before .before .before .before .before
+
+abbrev start-from-slice-known5 : tie.After-slice-known5 → tie.Start
+start-from-slice-known5 c = c .before .before .before .before .before .before .before .before .before .before .before .before .before .before .before .before .before
+
 returns : tie.Need-returns
-returns c = fresh-written (now (c .before .before .before .before .before .before .before .before .before .before .before .before .before .before .before .before .before .args .room)) _ _ _ _ _ (c .before .before .before .before .before .before .before .before .before .before .before .before .before .before .before .before .before .pre) (c .before .before .before .before .before .before .before .before .before .before .before .before .before .before .write-eight .ensures) (c .before .before .before .before .before .before .before .before .before .before .write-eight2 .ensures) (c .before .before .before .before .before .before .write-two .ensures) (c .before .before .write-two2 .ensures)
+returns c = fresh-written (now (start-from-slice-known5 c .args .room)) _ _ _ _ _ (start-from-slice-known5 c .pre) (write-eight-from-slice-known5 c .write-eight .ensures) (write-eight2-from-slice-known5 c .write-eight2 .ensures) (write-two-from-slice-known5 c .write-two .ensures) (c .before .before .write-two2 .ensures)
 
 pub write-fresh-spec : {M : Type 1} → statement M
 write-fresh-spec =

@@ -19,8 +19,15 @@ Inv-loop room at n t₀ p₀ left₀ t p left = Ordered (aTxn keyLimit) idOf idA
 abbrev μ-loop : tie.MeasureT-loop
 μ-loop room at n t₀ p₀ left₀ t p left = left
 
+-- from what follows back to the place that it rests on
+abbrev start-from-u : tie.After-u Inv-loop μ-loop → tie.Start Inv-loop μ-loop
+start-from-u c = c .before .before .before .before .before .before .before
+
+abbrev loop-from-id-follows : tie.After-id-follows Inv-loop μ-loop → tie.At-loop Inv-loop μ-loop
+loop-from-id-follows c = c .before .before .before .before .before .before
+
 -- the record that was read in this turn
-seen : (c : tie.After-u Inv-loop μ-loop) → Got (aTxn keyLimit) (now (c .before .before .before .before .before .before .before .args .room)) (c .before .before .before .before .loop .t .end) (c .u .given .0 .0)
+seen : (c : tie.After-u Inv-loop μ-loop) → Got (aTxn keyLimit) (now (start-from-u c .args .room)) (c .before .before .before .before .loop .t .end) (c .u .given .0 .0)
 seen c = rw (c .u .given .1) at (c .before .before .txn-end .ensures)
 
 start-requires : tie.Need-start-requires Inv-loop μ-loop
@@ -39,10 +46,10 @@ id-follows-requires : tie.Need-id-follows-requires Inv-loop μ-loop
 id-follows-requires c κs = (ordered-apart (aTxn keyLimit) idOf idAt idSize (c .before .before .before .before .before .loop .inv), omega (arith, txn-labelled _ _ _ _ _ (seen (c .before) .part) .0, seen (c .before) .part .inside))
 
 returns : tie.Need-returns Inv-loop μ-loop
-returns c = ordered-unfit (aTxn keyLimit) idOf idAt idSize (c .before .before .before .before .before .before .before .loop .inv) (omega arith) (omega arith) (txn-labelled keyLimit) (seen (c .before .before .before)) (sym (c .before .id-follows .ensures) ∙ not-true _ (c .if1 .taken))
+returns c = ordered-unfit (aTxn keyLimit) idOf idAt idSize (loop-from-id-follows (c .before) .loop .inv) (omega arith) (omega arith) (txn-labelled keyLimit) (seen (c .before .before .before)) (sym (c .before .id-follows .ensures) ∙ not-true _ (c .if1 .taken))
 
 joined-requires : tie.Need-joined-requires Inv-loop μ-loop
-joined-requires c κs = going-join (aTxn keyLimit) (ascending (aTxn keyLimit) idOf idAt idSize) (c .before .before .before .before .before .before .before .loop .inv .going) (seen (c .before .before .before))
+joined-requires c κs = going-join (aTxn keyLimit) (ascending (aTxn keyLimit) idOf idAt idSize) (loop-from-id-follows (c .before) .loop .inv .going) (seen (c .before .before .before))
 
 sub-left : tie.Need-sub-left Inv-loop μ-loop
 sub-left c = search needs
@@ -51,7 +58,7 @@ loop-less : tie.Need-loop-less Inv-loop μ-loop
 loop-less c = search needs
 
 loop-again : tie.Need-loop-again Inv-loop μ-loop
-loop-again c = ordered-next (aTxn keyLimit) idOf idAt idSize (c .before .before .before .before .before .before .before .before .loop .inv) (omega arith) (omega arith) (txn-labelled keyLimit) (seen (c .before .before .before .before)) (sym (c .before .before .id-follows .ensures) ∙ not-false _ (c .before .if1 .left)) _ (c .joined .ensures)
+loop-again c = ordered-next (aTxn keyLimit) idOf idAt idSize (loop-from-id-follows (c .before .before) .loop .inv) (omega arith) (omega arith) (txn-labelled keyLimit) (seen (c .before .before .before .before)) (sym (c .before .before .id-follows .ensures) ∙ not-false _ (c .before .if1 .left)) _ (c .joined .ensures)
 
 enum-told : tie.Need-enum-told Inv-loop μ-loop
 enum-told c = search needs

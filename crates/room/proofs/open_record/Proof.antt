@@ -14,14 +14,33 @@ use Rattle.room.proofs.OpenLaws.{no-head, no-entries, no-active, not-so
 use Rattle.room.proofs.open_record.Statement.{statement}
 use Rattle.room.proofs.open_record.Tie as tie
 
+-- from what follows back to the place that it rests on
+abbrev start-from-entries-end : tie.After-entries-end → tie.Start
+start-from-entries-end c = c .before .before .before .before .before .before
+
+abbrev start-from-t : tie.After-t → tie.Start
+start-from-t c = c .before .before .before .before .before .before .before .before
+
+abbrev top-from-active-end : tie.After-active-end → tie.After-top
+top-from-active-end c = c .before .before .before .before .before .before
+
+abbrev top-from-u : tie.After-u → tie.After-top
+top-from-u c = c .before .before .before .before .before .before .before .before
+
+abbrev start-from-u : tie.After-u → tie.Start
+start-from-u c = c .before .before .before .before .before .before .before .before .before .before .before .before
+
+abbrev t-from-sound : tie.After-sound → tie.After-t
+t-from-sound c = c .before .before .before .before .before .before .before
+
 -- the head, the entries and the active ones that were read
 headed : (c : tie.After-top) → HeadIs (now (c .before .before .before .before .args .room)) (c .top .given .0 .0)
 headed c = rw (c .top .given .1) at (c .before .before .head .ensures)
 
-entered : (c : tie.After-t) → Got (runOf (anEntry keyLimit) anyOrder (c .before .before .before .before .top .given .0 .0 .entries)) (now (c .before .before .before .before .before .before .before .before .args .room)) entriesAt (c .t .given .0 .0)
+entered : (c : tie.After-t) → Got (runOf (anEntry keyLimit) anyOrder (c .before .before .before .before .top .given .0 .0 .entries)) (now (start-from-t c .args .room)) entriesAt (c .t .given .0 .0)
 entered c = rw (c .t .given .1) at (c .before .before .entries-end .ensures)
 
-begun : (c : tie.After-u) → Got (runOf (aTxn keyLimit) belowId (c .before .before .before .before .before .before .before .before .top .given .0 .0 .active)) (now (c .before .before .before .before .before .before .before .before .before .before .before .before .args .room)) (c .before .before .before .before .t .given .0 .0 .end) (c .u .given .0 .0)
+begun : (c : tie.After-u) → Got (runOf (aTxn keyLimit) belowId (top-from-u c .top .given .0 .0 .active)) (now (start-from-u c .args .room)) (c .before .before .before .before .t .given .0 .0 .end) (c .u .given .0 .0)
 begun c = rw (c .u .given .1) at (c .before .before .active-end .ensures)
 
 head-requires : tie.Need-head-requires
@@ -58,19 +77,19 @@ sound-requires : tie.Need-sound-requires
 sound-requires c κs = search needs
 
 returns : tie.Need-returns
-returns c = seen (c .before .before .before .before .before .before .before .before .before .before .before .before .before .before .before .before .pre) (headed (c .before .before .before .before .before .before .before .before .before .before .before .before)) (entered (c .before .before .before .before .before .before .before .before)) (begun (c .before .before .before .before)) _ (c .before .before .joined .ensures) (sym (c .before .sound .ensures) ∙ c .if1 .taken)
+returns c = seen (start-from-u (c .before .before .before .before) .pre) (headed (top-from-u (c .before .before .before .before))) (entered (t-from-sound (c .before))) (begun (c .before .before .before .before)) _ (c .before .before .joined .ensures) (sym (c .before .sound .ensures) ∙ c .if1 .taken)
 
 returns-2 : tie.Need-returns-2
 returns-2 c = no-head (c .before .before .before .before .pre) (rw (c .enum-told .given .1) at (c .before .before .head .ensures))
 
 returns-3 : tie.Need-returns-3
-returns-3 c = no-entries (c .before .before .before .before .before .before .before .before .pre) (headed (c .before .before .before .before)) (rw (c .enum-told2 .given .1) at (c .before .before .entries-end .ensures))
+returns-3 c = no-entries (start-from-entries-end (c .before .before) .pre) (headed (c .before .before .before .before)) (rw (c .enum-told2 .given .1) at (c .before .before .entries-end .ensures))
 
 returns-4 : tie.Need-returns-4
-returns-4 c = no-active (c .before .before .before .before .before .before .before .before .before .before .before .before .pre) (headed (c .before .before .before .before .before .before .before .before)) (entered (c .before .before .before .before)) (rw (c .enum-told3 .given .1) at (c .before .before .active-end .ensures))
+returns-4 c = no-active (start-from-t (c .before .before .before .before) .pre) (headed (top-from-active-end (c .before .before))) (entered (c .before .before .before .before)) (rw (c .enum-told3 .given .1) at (c .before .before .active-end .ensures))
 
 returns-5 : tie.Need-returns-5
-returns-5 c = not-sound (c .before .before .before .before .before .before .before .before .before .before .before .before .before .before .before .before .pre) (headed (c .before .before .before .before .before .before .before .before .before .before .before .before)) (entered (c .before .before .before .before .before .before .before .before)) (begun (c .before .before .before .before)) _ (c .before .before .joined .ensures) (sym (c .before .sound .ensures) ∙ c .if1 .left)
+returns-5 c = not-sound (start-from-u (c .before .before .before .before) .pre) (headed (top-from-u (c .before .before .before .before))) (entered (t-from-sound (c .before))) (begun (c .before .before .before .before)) _ (c .before .before .joined .ensures) (sym (c .before .sound .ensures) ∙ c .if1 .left)
 
 pub open-record-spec : {M : Type 1} → statement M
 open-record-spec =

@@ -25,8 +25,12 @@ key-end-requires c κs = search needs
 bound-of-requires : tie.Need-bound-of-requires
 bound-of-requires c κs = search needs
 
+-- from what follows back to the place that it rests on
+abbrev start-from-shared-slice-known2 : tie.After-shared-slice-known2 → tie.Start
+start-from-shared-slice-known2 c = c .before .before .before
+
 returns-2 : tie.Need-returns-2
-returns-2 c = rw (c .bound-of .ensures) (unbounded-ends _ (now (c .before .before .before .before .before .before .args .room)) (c .before .before .before .before .before .before .args .at) (omega arith) (λ i. omega (arith, c .before .before .before .shared-slice-known2 .given i)) (c .before .before .if2 .taken) (c .before .key-end .result) (c .before .key-end .ensures))
+returns-2 c = rw (c .bound-of .ensures) (unbounded-ends _ (now (start-from-shared-slice-known2 (c .before .before .before) .args .room)) (start-from-shared-slice-known2 (c .before .before .before) .args .at) (omega arith) (λ i. omega (arith, c .before .before .before .shared-slice-known2 .given i)) (c .before .before .if2 .taken) (c .before .key-end .result) (c .before .key-end .ensures))
 
 add-key-end-2 : tie.Need-add-key-end-2
 add-key-end-2 c = search needs
@@ -38,7 +42,7 @@ bound-of-requires-2 : tie.Need-bound-of-requires-2
 bound-of-requires-2 c κs = search needs
 
 returns-3 : tie.Need-returns-3
-returns-3 c = rw (c .bound-of2 .ensures) (included-ends _ (now (c .before .before .before .before .before .before .before .args .room)) (c .before .before .before .before .before .before .before .args .at) (omega arith) (λ i. omega (arith, c .before .before .before .before .shared-slice-known2 .given i)) (c .before .before .if3 .taken) (c .before .key-end2 .result) (c .before .key-end2 .ensures))
+returns-3 c = rw (c .bound-of2 .ensures) (included-ends _ (now (start-from-shared-slice-known2 (c .before .before .before .before) .args .room)) (start-from-shared-slice-known2 (c .before .before .before .before) .args .at) (omega arith) (λ i. omega (arith, c .before .before .before .before .shared-slice-known2 .given i)) (c .before .before .if3 .taken) (c .before .key-end2 .result) (c .before .key-end2 .ensures))
 
 add-key-end-3 : tie.Need-add-key-end-3
 add-key-end-3 c = search needs
@@ -50,7 +54,7 @@ bound-of-requires-3 : tie.Need-bound-of-requires-3
 bound-of-requires-3 c κs = search needs
 
 returns-4 : tie.Need-returns-4
-returns-4 c = rw (c .bound-of3 .ensures) (excluded-ends _ (now (c .before .before .before .before .before .before .before .before .args .room)) (c .before .before .before .before .before .before .before .before .args .at) (omega arith) (λ i. omega (arith, c .before .before .before .before .before .shared-slice-known2 .given i)) (c .before .before .if4 .taken) (c .before .key-end3 .result) (c .before .key-end3 .ensures))
+returns-4 c = rw (c .bound-of3 .ensures) (excluded-ends _ (now (start-from-shared-slice-known2 (c .before .before .before .before .before) .args .room)) (start-from-shared-slice-known2 (c .before .before .before .before .before) .args .at) (omega arith) (λ i. omega (arith, c .before .before .before .before .before .shared-slice-known2 .given i)) (c .before .before .if4 .taken) (c .before .key-end3 .result) (c .before .key-end3 .ensures))
 
 returns-5 : tie.Need-returns-5
 returns-5 c = tag-unknown _ _ _ _ (omega arith) (λ i. omega (arith, c .before .before .before .shared-slice-known2 .given i)) refl (c .before .before .if2 .left) (c .before .if3 .left) (c .if4 .left)

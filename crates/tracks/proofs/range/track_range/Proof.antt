@@ -41,6 +41,13 @@ before-else2 c = c .before .before
 abbrev start-else2 : tie.Else2 → tie.Start
 start-else2 c = start-at (c .before .before)
 
+-- from what follows back to the place that it rests on
+abbrev else2-from-done : tie.After-done → tie.Else2
+else2-from-done c = c .before .before .before .before .before .before
+
+abbrev size-from-absent : tie.After-absent → tie.After-size
+size-from-absent c = c .before .before .before .before .before .before
+
 -- what is known of the arguments, and of the transaction once it is found
 is-id : (c : tie.Else1) → length (now (c .before .before .before .before .args .id)) ≡ 16
 is-id c = omega arith
@@ -88,7 +95,7 @@ same-length-2 : tie.Need-same-length-2
 same-length-2 c = search needs
 
 returns-3 : tie.Need-returns-3
-returns-3 c = said (c .done .ensures) (range-done (start-else2 (c .before .before .before .before .before .before) .pre) (now (start-else2 (c .before .before .before .before .before .before) .args .id)) (now (start-else2 (c .before .before .before .before .before .before) .args .bounds)) (is-id (before-size (before-at (before-else2 (c .before .before .before .before .before .before))))) (good (before-at (before-else2 (c .before .before .before .before .before .before)))) (found (before-else2 (c .before .before .before .before .before .before))) (small (before-size (before-at (before-else2 (c .before .before .before .before .before .before))))) (omega (arith, c .before .before .before .before .before .before .if2 .left)) (ltb-false _ _ (c .before .before .before .before .before .if3 .left)) (c .before .before .before .append-range .ensures))
+returns-3 c = said (c .done .ensures) (range-done (start-else2 (else2-from-done c) .pre) (now (start-else2 (else2-from-done c) .args .id)) (now (start-else2 (else2-from-done c) .args .bounds)) (is-id (before-size (before-at (before-else2 (else2-from-done c))))) (good (before-at (before-else2 (else2-from-done c)))) (found (before-else2 (else2-from-done c))) (small (before-size (before-at (before-else2 (else2-from-done c))))) (omega (arith, else2-from-done c .if2 .left)) (ltb-false _ _ (c .before .before .before .before .before .if3 .left)) (c .before .before .before .append-range .ensures))
 
 enum-told : tie.Need-enum-told
 enum-told c = search needs
@@ -100,7 +107,7 @@ same-length-3 : tie.Need-same-length-3
 same-length-3 c = search needs
 
 returns-4 : tie.Need-returns-4
-returns-4 c = said (c .absent .ensures) (range-absent (start-size (c .before .before .before .before .before .before) .pre) (now (start-size (c .before .before .before .before .before .before) .args .id)) (now (start-size (c .before .before .before .before .before .before) .args .bounds)) (is-id (before-size (c .before .before .before .before .before .before))) (good (c .before .before .before .before .before .before)) (rw (c .before .enum-told .given .1) at (c .before .before .before .find-txn .ensures)))
+returns-4 c = said (c .absent .ensures) (range-absent (start-size (size-from-absent c) .pre) (now (start-size (size-from-absent c) .args .id)) (now (start-size (size-from-absent c) .args .bounds)) (is-id (before-size (size-from-absent c))) (good (size-from-absent c)) (rw (c .before .enum-told .given .1) at (c .before .before .before .find-txn .ensures)))
 
 enum-told-2 : tie.Need-enum-told-2
 enum-told-2 c = search needs
