@@ -14,7 +14,7 @@ use Rattle.layout.specs.Offsets.{idSize, entriesAt, writesAt, markSize}
 use Rattle.layout.specs.Keys.{setForm}
 use Rattle.layout.specs.Records.{txnForm}
 use Rattle.layout.specs.States.{headsOf, setActiveCount, roomSize}
-use Rattle.layout.specs.Places.{Here}
+use Rattle.layout.specs.Rows.{Here}
 use Rattle.layout.proofs.OpenLaws.{open-txn}
 use Rattle.layout.proofs.RowLaws.{row-end}
 use Rattle.layout.proofs.SizeLaws.{fits-size}

@@ -8,7 +8,7 @@ use Rattle.layout.specs.Records.{entryForm, txnForm}
 use Rattle.layout.specs.Offsets.{entriesAt}
 use Rattle.layout.specs.States.{headsOf, roomSize}
 use Rattle.layout.specs.Rooms.{load, Served}
-use Rattle.layout.specs.Places.{Row, Rows}
+use Rattle.layout.specs.Rows.{Row, Rows}
 use Rattle.layout.proofs.LoadLaws.{Held, no-state}
 use Rattle.edits.specs.Laid.{Laid, entriesOf, activeOf}
 use Rattle.places.specs.declared.finds.Place.{Place}

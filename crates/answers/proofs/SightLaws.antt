@@ -7,14 +7,14 @@ use lib.ListN.{length, drop, length-append}
 use Rattle.machine.specs.State.{State, base}
 use Rattle.machine.specs.Calls.{holding}
 use Rattle.codec.specs.Formats.{bind, only}
-use Rattle.codec.specs.Places.{Stands}
+use Rattle.codec.specs.Stands.{Stands}
 use Rattle.codec.proofs.RecordLaws.{stands-length}
 use Rattle.layout.specs.Keys.{anyOrder}
 use Rattle.layout.specs.Offsets.{entriesAt}
 use Rattle.layout.specs.Records.{headForm, countsForm, countsOf, PartRaw, toContent, ofContent, part-same, partForm, entryForm, txnForm, entriesForm, activeForm, belowId}
 use Rattle.layout.specs.States.{StateRaw, toState, ofState, contentOf, headsOf, plainForm, sound, stateForm, roomSize}
 use Rattle.layout.specs.Rooms.{load}
-use Rattle.layout.specs.Places.{Part, Row}
+use Rattle.layout.specs.Rows.{Part, Row}
 use Rattle.layout.proofs.PartLaws.{both, through, tested, part-end}
 use Rattle.layout.proofs.RowLaws.{run-row, row-end}
 use Rattle.layout.proofs.SizeLaws.{heads-length, machine-size}

@@ -14,13 +14,13 @@ use Rattle.machine.specs.Serve.{newTxn}
 use Rattle.machine.proofs.ActiveLaws.{put-new-length, put-all}
 use Rattle.codec.specs.Codec.{item}
 use Rattle.codec.specs.Formats.{number}
-use Rattle.codec.specs.Places.{Stands}
+use Rattle.codec.specs.Stands.{Stands}
 use Rattle.moves.specs.Splices.{Spliced}
 use Rattle.layout.specs.Offsets.{numberSize, countSize, idSize, lastAt, partAt, activeCountAt, entriesAt, txnSize}
 use Rattle.layout.specs.Records.{txnForm}
 use Rattle.layout.specs.States.{headsOf, setActiveCount, roomSize}
 use Rattle.layout.specs.Rooms.{Served}
-use Rattle.layout.specs.Places.{Here}
+use Rattle.layout.specs.Rows.{Here}
 use Rattle.layout.proofs.RowLaws.{row-end, row-inside, write-append}
 use Rattle.layout.proofs.SizeLaws.{txn-length, ids-long, fits-size, state-length}
 use Rattle.layout.proofs.HoldLaws.{base-small}

@@ -10,7 +10,7 @@ use lib.ListN.{length, drop, getD, set, length-append}
 use lib.Seq.{drop-cons, paste, sets, sets-eq, take-all}
 use Rattle.codec.specs.Codec.{item, readNumber, writeNumber}
 use Rattle.codec.specs.Formats.{number}
-use Rattle.codec.specs.Places.{Stands}
+use Rattle.codec.specs.Stands.{Stands}
 
 -- the number that k bytes from a place on make, the highest first
 abbrev pub valueAt : ℕ → List ℕ → ℕ → ℕ

@@ -7,7 +7,7 @@ use lib.ListN.{length, drop, length-append, length-drop}
 use lib.Seq.{drop-append-seam, drop-append-add}
 use Rattle.codec.specs.Codec.{Item, item, cut, Codec, writeRun}
 use Rattle.codec.specs.Formats.{bind, run}
-use Rattle.codec.specs.Places.{Stands}
+use Rattle.codec.specs.Stands.{Stands}
 
 module _ {A : Type 0} (C : Codec A) where
   -- some bytes begin with the record of at most one value

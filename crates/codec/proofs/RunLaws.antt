@@ -8,7 +8,7 @@ use native.Mathlib.Omega.{arith}
 use lib.ListN.{drop}
 use Rattle.codec.specs.Codec.{Item, item, cut, Codec, onItem, guard, fine, readRun}
 use Rattle.codec.specs.Formats.{run}
-use Rattle.codec.specs.Places.{Stands}
+use Rattle.codec.specs.Stands.{Stands}
 
 -- the values that were read already, before those that are still to be read
 abbrev pub behind : {A : Type 0} → List A → Item (List A) → Item (List A)

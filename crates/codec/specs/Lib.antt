@@ -1,4 +1,4 @@
 pub mod Codec
 pub mod CodecLaws
 pub mod Formats
-pub mod Places
+pub mod Stands

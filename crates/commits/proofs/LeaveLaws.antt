@@ -13,7 +13,7 @@ use Rattle.moves.proofs.SpliceLaws.{drop-take}
 use Rattle.layout.specs.Offsets.{numberSize, writesAt}
 use Rattle.layout.specs.Keys.{setForm}
 use Rattle.layout.specs.Records.{txnForm}
-use Rattle.layout.specs.Places.{Part, Here, Ends}
+use Rattle.layout.specs.Rows.{Part, Here, Ends}
 use Rattle.layout.proofs.PartLaws.{part-end, part-slice}
 use Rattle.layout.proofs.OpenLaws.{open-txn}
 use Rattle.places.proofs.EndLaws.{here-of}

@@ -15,7 +15,7 @@ use Rattle.moves.specs.Splices.{Spliced}
 use Rattle.layout.specs.Offsets.{countSize, activeCountAt, entriesAt}
 use Rattle.layout.specs.Records.{entryForm, txnForm}
 use Rattle.layout.specs.States.{headsOf, setActiveCount}
-use Rattle.layout.specs.Places.{Row}
+use Rattle.layout.specs.Rows.{Row}
 use Rattle.room.specs.declared.View.{View}
 use Rattle.room.specs.Views.{Seen}
 use Rattle.places.specs.declared.finds.Place.{Place}

@@ -8,7 +8,7 @@ use Rattle.moves.specs.Splices.{Spliced}
 use Rattle.layout.specs.Offsets.{numberSize}
 use Rattle.layout.specs.Keys.{setForm}
 use Rattle.layout.specs.Records.{txnForm}
-use Rattle.layout.specs.Places.{Part}
+use Rattle.layout.specs.Rows.{Part}
 use Rattle.tracks.specs.Drafts.{setSize}
 
 -- the record of a transaction stands from at up to end, behind `middle` and within the used bytes; a draft can hold its writes

@@ -8,7 +8,7 @@ use lib.ListN.{length, take, drop, length-append, take-append-drop}
 use lib.Seq.{paste, length-take-le, take-at}
 use Rattle.machine.specs.State.{State, base}
 use Rattle.codec.specs.Formats.{number, bind, only, via}
-use Rattle.codec.specs.Places.{Stands}
+use Rattle.codec.specs.Stands.{Stands}
 use Rattle.codec.proofs.NumberLaws.{length-number}
 use Rattle.codec.proofs.RecordLaws.{written-stands}
 use Rattle.moves.specs.Splices.{Spliced, usedAfter}

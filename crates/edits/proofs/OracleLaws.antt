@@ -6,7 +6,7 @@ use lib.ListN.{drop}
 use lib.Seq.{paste}
 use Rattle.codec.specs.Codec.{item}
 use Rattle.codec.specs.Formats.{number}
-use Rattle.codec.specs.Places.{Stands}
+use Rattle.codec.specs.Stands.{Stands}
 use Rattle.layout.specs.Offsets.{numberSize, lastAt, partAt}
 use Rattle.edits.specs.Advance.{Advanced}
 

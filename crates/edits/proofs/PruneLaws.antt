@@ -12,11 +12,11 @@ use Rattle.machine.specs.State.{Entry, base}
 use Rattle.machine.proofs.ListLaws.{keep-append}
 use Rattle.codec.specs.Codec.{Codec, writeRun}
 use Rattle.codec.specs.Formats.{number}
-use Rattle.codec.specs.Places.{Stands}
+use Rattle.codec.specs.Stands.{Stands}
 use Rattle.moves.proofs.SpliceLaws.{drop-take, later}
 use Rattle.layout.specs.Offsets.{numberSize, entriesAt, keysAt}
 use Rattle.layout.specs.Records.{entryForm}
-use Rattle.layout.specs.Places.{Part, Row, Rows, Here, Ends}
+use Rattle.layout.specs.Rows.{Part, Row, Rows, Here, Ends}
 use Rattle.layout.proofs.PartLaws.{part-slice, number-read-is}
 use Rattle.layout.proofs.RowLaws.{row-one, write-append}
 use Rattle.layout.proofs.OpenLaws.{open-entry}

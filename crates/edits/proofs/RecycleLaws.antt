@@ -16,7 +16,7 @@ use Rattle.moves.proofs.SpliceLaws.{drop-take, later, replaces, untouched}
 use Rattle.layout.specs.Offsets.{countSize, entryCountAt, entriesAt}
 use Rattle.layout.specs.Records.{entryForm, txnForm}
 use Rattle.layout.specs.States.{Heads, headsOf, writeHeads, setEntryCount, roomSize}
-use Rattle.layout.specs.Places.{Rows}
+use Rattle.layout.specs.Rows.{Rows}
 use Rattle.layout.proofs.RowLaws.{row-inside, row-end}
 use Rattle.layout.proofs.SizeLaws.{heads-length}
 use Rattle.layout.proofs.LoadLaws.{Changed}

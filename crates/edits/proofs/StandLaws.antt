@@ -13,7 +13,7 @@ use Rattle.layout.specs.Offsets.{entriesAt}
 use Rattle.layout.specs.Keys.{anyOrder}
 use Rattle.layout.specs.Records.{entryForm, txnForm}
 use Rattle.layout.specs.States.{Heads, writeHeads}
-use Rattle.layout.specs.Places.{Row}
+use Rattle.layout.specs.Rows.{Row}
 use Rattle.layout.proofs.PartLaws.{part-ok}
 use Rattle.layout.proofs.RowLaws.{row-of}
 use Rattle.layout.proofs.SizeLaws.{heads-length}

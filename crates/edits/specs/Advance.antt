@@ -4,7 +4,7 @@ use mathlib.Core.Path.{_≡_}
 use mathlib.Core.List.{List}
 use lib.Seq.{paste}
 use Rattle.codec.specs.Formats.{number}
-use Rattle.codec.specs.Places.{Stands}
+use Rattle.codec.specs.Stands.{Stands}
 use Rattle.layout.specs.Offsets.{numberSize, lastAt, partAt}
 
 pub record Advanced (s : List ℕ) (seq : ℕ) (s' : List ℕ) (r : ℕ) : Type 0 where

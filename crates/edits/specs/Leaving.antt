@@ -11,7 +11,7 @@ use Rattle.codec.specs.Codec.{writeRun}
 use Rattle.layout.specs.Offsets.{entriesAt}
 use Rattle.layout.specs.Records.{entryForm, txnForm}
 use Rattle.layout.specs.States.{headsOf, roomSize}
-use Rattle.layout.specs.Places.{Row}
+use Rattle.layout.specs.Rows.{Row}
 use Rattle.layout.proofs.LoadLaws.{Changed}
 use Rattle.edits.specs.declared.leaving.Kept.{Kept}
 use Rattle.edits.specs.Laid.{Laid, entriesOf, activeOf}

@@ -4,7 +4,7 @@ ghost use lib.ListN.{length};
 ghost use Rattle.machine.specs.State.{base};
 ghost use Rattle.layout.specs.Offsets.{entriesAt};
 ghost use Rattle.layout.specs.Records.{entryForm};
-ghost use Rattle.layout.specs.Places.{Rows};
+ghost use Rattle.layout.specs.Rows.{Rows};
 ghost use Rattle.edits.specs.Leaving.{Prunes, Prunable, Recycled, Emptied};
 use crate::remove;
 use crate::write_fresh;

@@ -1,7 +1,7 @@
 ghost use Prim.Native.Nat.{_≤_};
 ghost use lib.ListN.{length};
 ghost use Rattle.codec.specs.Formats.{number};
-ghost use Rattle.codec.specs.Places.{Stands};
+ghost use Rattle.codec.specs.Stands.{Stands};
 ghost use Rattle.layout.specs.Offsets.{numberSize, lastAt, partAt};
 ghost use Rattle.edits.specs.Advance.{Advanced};
 use codec::numbers::larger;

@@ -18,7 +18,7 @@ use Rattle.codec.specs.Formats.{number, raw, bind, only, run}
 use Rattle.layout.specs.Offsets.{numberSize, countSize, lengthSize, tagSize, idSize, keysAt, startAt, writesAt}
 use Rattle.layout.specs.Keys.{KeyRaw, key-same, keyForm, ListRaw, list-same, listForm, setForm, below, anyOrder, isTag, tagLimit, tagged, boundAs, BoundRaw, bound-back, bound-same, boundForm, RangeRaw, pairForm, rangeForm, rangesForm}
 use Rattle.layout.specs.Records.{entryForm, TxnRaw, toTxn, ofTxn, txnForm}
-use Rattle.layout.specs.Places.{Part, Row}
+use Rattle.layout.specs.Rows.{Part, Row}
 use Rattle.layout.proofs.PartLaws.{part-ok, both, through, tested, number-end, raw-slice}
 use Rattle.layout.proofs.RowLaws.{run-row}
 

@@ -8,11 +8,11 @@ use lib.ListN.{length, drop, length-append, length-drop}
 use lib.Seq.{slice, take-append-seam, drop-drop, drop-at}
 use Rattle.codec.specs.Codec.{item, Codec}
 use Rattle.codec.specs.Formats.{number, raw, bind, only, via}
-use Rattle.codec.specs.Places.{Stands}
+use Rattle.codec.specs.Stands.{Stands}
 use Rattle.codec.proofs.RecordLaws.{stands-length}
 use Rattle.codec.proofs.NumberLaws.{length-number}
 use Rattle.moves.proofs.SpliceLaws.{drop-take}
-use Rattle.layout.specs.Places.{Part}
+use Rattle.layout.specs.Rows.{Part}
 
 module _ {A : Type 0} (C : Codec A) where
   pub part-bytes : {s : List ℕ} {at e : ℕ} {a : A} → Part C s at a e → drop at s ≡ C .write a ++ drop e s

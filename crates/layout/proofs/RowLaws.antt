@@ -11,7 +11,7 @@ use lib.Seq.{slice, take-append-seam, drop-drop, drop-at}
 use Rattle.codec.specs.Codec.{Codec, writeRun, RunOk}
 use Rattle.codec.specs.Formats.{run}
 use Rattle.moves.proofs.SpliceLaws.{drop-take}
-use Rattle.layout.specs.Places.{Part, Row}
+use Rattle.layout.specs.Rows.{Part, Row}
 use Rattle.layout.proofs.PartLaws.{part-bytes, part-of, part-end, part-one}
 
 module _ {A : Type 0} (C : Codec A) where

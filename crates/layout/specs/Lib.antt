@@ -4,5 +4,5 @@ pub mod Keys
 pub mod Records
 pub mod States
 pub mod Rooms
-pub mod Places
+pub mod Rows
 pub mod Runs

@@ -6,7 +6,7 @@ use mathlib.Core.List.{List, _∷_}
 use native.Mathlib.Omega.{arith}
 use Rattle.layout.specs.Offsets.{countSize}
 use Rattle.codec.specs.Codec.{Codec}
-use Rattle.layout.specs.Places.{Row, Here, Ends}
+use Rattle.layout.specs.Rows.{Row, Here, Ends}
 use Rattle.layout.proofs.PartLaws.{number-read-is}
 use Rattle.layout.proofs.OpenLaws.{OpenList}
 use Rattle.places.specs.declared.cursor.Cursor.{Cursor}

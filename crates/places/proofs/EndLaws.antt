@@ -6,11 +6,11 @@ use native.Mathlib.Omega.{arith}
 use Rattle.kinds.specs.Bounds.{Bound}
 use Rattle.codec.specs.Codec.{Codec}
 use Rattle.codec.specs.Formats.{number}
-use Rattle.codec.specs.Places.{Stands}
+use Rattle.codec.specs.Stands.{Stands}
 use Rattle.machine.specs.State.{Bytes}
 use Rattle.layout.specs.Offsets.{lengthSize, tagSize, boundKeyAt}
 use Rattle.layout.specs.Keys.{keyForm, setForm, below, boundForm, rangeForm, rangesForm, anyOrder}
-use Rattle.layout.specs.Places.{Part, Here, Ends}
+use Rattle.layout.specs.Rows.{Part, Here, Ends}
 use Rattle.layout.proofs.PartLaws.{part-one, number-read-is}
 use Rattle.layout.proofs.OpenLaws.{open-key, open-set, open-bound, open-ranges}
 use Rattle.places.specs.declared.cursor.Cursor.{Cursor}

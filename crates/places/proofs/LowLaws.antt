@@ -4,13 +4,13 @@ use mathlib.Core.Path.{_≡_, refl, sym, ap, _∙_}
 use mathlib.Core.List.{List, [], _∷_, _++_, append-assoc, List·Memᴰ·head}
 use native.Mathlib.Omega.{arith}
 use Rattle.codec.specs.Formats.{number}
-use Rattle.codec.specs.Places.{Stands}
+use Rattle.codec.specs.Stands.{Stands}
 use Rattle.machine.specs.State.{Txn, base}
 use Rattle.machine.specs.Sets.{leastOf}
 use Rattle.machine.proofs.Minimum.{least-is}
 use Rattle.layout.specs.Offsets.{numberSize, startAt}
 use Rattle.layout.specs.Records.{txnForm}
-use Rattle.layout.specs.Places.{Rows, Ends}
+use Rattle.layout.specs.Rows.{Rows, Ends}
 use Rattle.layout.proofs.PartLaws.{number-read-is}
 use Rattle.layout.proofs.OpenLaws.{open-txn}
 use Rattle.places.specs.declared.cursor.Cursor.{Cursor}

@@ -20,7 +20,7 @@ use Rattle.codec.proofs.NumberLaws.{stands-number}
 use Rattle.ranges.proofs.MadeLaws.{bound-back}
 use Rattle.moves.proofs.SpliceLaws.{drop-take}
 use Rattle.layout.specs.Keys.{keyForm, boundForm, rangeForm}
-use Rattle.layout.specs.Places.{Part, Here, Ends}
+use Rattle.layout.specs.Rows.{Part, Here, Ends}
 use Rattle.layout.proofs.PartLaws.{number-read-is}
 use Rattle.layout.proofs.OpenLaws.{open-key, open-bound, open-range}
 use Rattle.places.specs.declared.cursor.Cursor.{Cursor}

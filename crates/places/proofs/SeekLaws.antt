@@ -18,7 +18,7 @@ use Rattle.machine.proofs.ListLaws.{all-append}
 use Rattle.layout.specs.Offsets.{idSize, writesAt}
 use Rattle.moves.proofs.SpliceLaws.{drop-take}
 use Rattle.layout.specs.Records.{txnForm}
-use Rattle.layout.specs.Places.{Rows, Here, Ends}
+use Rattle.layout.specs.Rows.{Rows, Here, Ends}
 use Rattle.layout.proofs.OpenLaws.{open-txn}
 use Rattle.places.specs.declared.finds.Place.{Place}
 use Rattle.places.specs.declared.cursor.Cursor.{Cursor}

@@ -5,7 +5,7 @@ use mathlib.Core.List.{List, [], _∷_, _++_, append-assoc}
 use native.Mathlib.Omega.{arith}
 use lib.ListN.{length}
 use Rattle.codec.specs.Codec.{Codec}
-use Rattle.layout.specs.Places.{Row, Rows, Here, Ends}
+use Rattle.layout.specs.Rows.{Row, Rows, Here, Ends}
 use Rattle.layout.proofs.RowLaws.{row-inside, row-one, row-join}
 use Rattle.places.specs.declared.cursor.Cursor.{Cursor}
 use Rattle.places.specs.Cursors.{past, Before}

@@ -13,9 +13,9 @@ use Rattle.machine.specs.Sets.{equal}
 use Rattle.layout.specs.Offsets.{countSize}
 use Rattle.codec.specs.Codec.{Codec}
 use Rattle.codec.specs.Formats.{number}
-use Rattle.codec.specs.Places.{Stands}
+use Rattle.codec.specs.Stands.{Stands}
 use Rattle.layout.specs.Keys.{keyForm, boundForm, rangeForm}
-use Rattle.layout.specs.Places.{Part, Row}
+use Rattle.layout.specs.Rows.{Part, Row}
 use Rattle.places.specs.declared.cursor.Cursor.{Cursor}
 
 abbrev pub past : Cursor → ℕ → Cursor

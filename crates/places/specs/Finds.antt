@@ -8,7 +8,7 @@ use Rattle.keys.specs.Order.{order}
 use Rattle.machine.specs.Lists.{All}
 use Rattle.machine.specs.State.{Bytes, Txn, base}
 use Rattle.layout.specs.Records.{txnForm}
-use Rattle.layout.specs.Places.{Part, Row}
+use Rattle.layout.specs.Rows.{Part, Row}
 use Rattle.places.specs.declared.finds.Place.{Place}
 
 -- every one of these has a lesser id

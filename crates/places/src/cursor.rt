@@ -5,7 +5,7 @@ ghost use lib.ListN.{length};
 ghost use Rattle.machine.specs.State.{base};
 ghost use Rattle.layout.specs.Offsets.{countSize};
 ghost use Rattle.layout.specs.Keys.{keyForm, boundForm, rangeForm};
-ghost use Rattle.layout.specs.Places.{Here};
+ghost use Rattle.layout.specs.Rows.{Here};
 ghost use Rattle.places.specs.Cursors.{past, CountAt, KindAt, IsKey, Holds};
 use crate::skips::bound_past;
 use crate::skips::key_past;

@@ -8,7 +8,7 @@ use layout::ID;
 use layout::START;
 ghost use Rattle.machine.specs.State.{base};
 ghost use Rattle.layout.specs.Records.{txnForm};
-ghost use Rattle.layout.specs.Places.{Rows};
+ghost use Rattle.layout.specs.Rows.{Rows};
 ghost use Rattle.places.specs.Finds.{Found, LowestIs};
 
 // Where the transaction with an id stands, or the place that it belongs to.

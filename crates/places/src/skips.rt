@@ -10,7 +10,7 @@ ghost use Prim.Native.Nat.{_+_};
 ghost use Rattle.machine.specs.State.{base};
 ghost use Rattle.layout.specs.Keys.{keyForm, setForm, boundForm, rangeForm, rangesForm};
 ghost use Rattle.layout.specs.Records.{entryForm, txnForm};
-ghost use Rattle.layout.specs.Places.{Here, Ends};
+ghost use Rattle.layout.specs.Rows.{Here, Ends};
 
 pub fn key_past(room: &[u8], at: usize) -> usize
     requires { ⌜ Here (keyForm (base .key)) (now room) at ⌝ }

@@ -14,7 +14,7 @@ use Rattle.machine.specs.Serve.{verdict}
 use Rattle.layout.specs.Offsets.{idSize, entriesAt}
 use Rattle.layout.specs.Records.{txnForm}
 use Rattle.layout.specs.Rooms.{Served}
-use Rattle.layout.specs.Places.{Here}
+use Rattle.layout.specs.Rows.{Here}
 use Rattle.layout.proofs.LoadLaws.{refuse, look, look-absent}
 use Rattle.places.specs.declared.finds.Place.{Place}
 use Rattle.places.specs.Finds.{Found, HereIn, LowestIs, lowest}

@@ -11,7 +11,7 @@ use lib.Seq.{drop-drop, take-append-seam}
 use Rattle.machine.specs.State.{Bytes, Txn}
 use Rattle.codec.specs.Codec.{item}
 use Rattle.codec.specs.Formats.{number, raw, bind, via}
-use Rattle.codec.specs.Places.{Stands}
+use Rattle.codec.specs.Stands.{Stands}
 use Rattle.codec.proofs.NumberLaws.{length-number}
 use Rattle.codec.proofs.RecordLaws.{too-short, stands-length}
 use Rattle.layout.specs.Offsets.{numberSize, idSize, keysAt, startAt, writesAt}

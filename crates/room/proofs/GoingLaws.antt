@@ -21,7 +21,7 @@ use Rattle.codec.specs.Codec.{fine}
 use Rattle.codec.specs.Formats.{run}
 use Rattle.codec.proofs.RunLaws.{Walk, walk-start, walk-next, walk-cut, walk-unfit, walk-end}
 use Rattle.layout.specs.Keys.{anyOrder, below}
-use Rattle.layout.specs.Places.{Part}
+use Rattle.layout.specs.Rows.{Part}
 use Rattle.layout.specs.States.{highest}
 use Rattle.room.specs.declared.tally.Tally.{Tally}
 use Rattle.room.specs.Counts.{Counted, runOf, emptyTally, plus}

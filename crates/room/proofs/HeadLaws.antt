@@ -11,7 +11,7 @@ use mir.Syntax.{w8}
 use mir.Val.{toZ, ofZ}
 use Rattle.keys.specs.Order.{order, sign}
 use Rattle.codec.specs.Formats.{number, bind, only, via}
-use Rattle.codec.specs.Places.{Stands}
+use Rattle.codec.specs.Stands.{Stands}
 use Rattle.layout.specs.Offsets.{numberSize, countSize, idSize, lastAt, partAt, entryCountAt, activeCountAt, entriesAt}
 use Rattle.layout.specs.Records.{headForm, countsForm, stamp}
 use Rattle.room.specs.Walks.{Missing, between}

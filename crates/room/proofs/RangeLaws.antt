@@ -16,7 +16,7 @@ use Rattle.bounds.specs.Ranges.{Range, range, rangeOf, notEmpty, notEmptyPair}
 use Rattle.machine.specs.State.{Bytes, rangeBytes}
 use Rattle.codec.specs.Codec.{item}
 use Rattle.codec.specs.Formats.{number, bind, only, via}
-use Rattle.codec.specs.Places.{Stands}
+use Rattle.codec.specs.Stands.{Stands}
 use Rattle.codec.proofs.NumberLaws.{stands-number}
 use Rattle.layout.specs.Offsets.{countSize, lengthSize, tagSize, boundKeyAt}
 use Rattle.layout.specs.Keys.{boundForm, pairForm, rangeForm, rangesForm, anyOrder}

@@ -12,12 +12,12 @@ use Rattle.machine.specs.State.{Bytes}
 use Rattle.machine.proofs.ListLaws.{length-sum}
 use Rattle.codec.specs.Codec.{Codec, cut}
 use Rattle.codec.specs.Formats.{number, raw, bind, only, via}
-use Rattle.codec.specs.Places.{Stands}
+use Rattle.codec.specs.Stands.{Stands}
 use Rattle.codec.proofs.NumberLaws.{length-number}
 use Rattle.codec.proofs.RecordLaws.{too-short, stands-length}
 use Rattle.layout.specs.Offsets.{countSize, lengthSize}
 use Rattle.layout.specs.Keys.{keyForm, listForm, setForm, below}
-use Rattle.layout.specs.Places.{Part}
+use Rattle.layout.specs.Rows.{Part}
 use Rattle.layout.specs.States.{highest}
 use Rattle.room.specs.declared.tally.Walked.{Walked}
 use Rattle.room.specs.declared.tally.Walked.the-variants.{Ends, Cut}

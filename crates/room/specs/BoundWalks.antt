@@ -8,7 +8,7 @@ use Rattle.kinds.specs.declared.kind.Kind.{Kind}
 use Rattle.ranges.specs.Made.{keyOf}
 use Rattle.layout.specs.Offsets.{boundKeyAt}
 use Rattle.layout.specs.Keys.{boundForm}
-use Rattle.layout.specs.Places.{Part}
+use Rattle.layout.specs.Rows.{Part}
 use Rattle.room.specs.declared.tally.Walked.{Walked}
 use Rattle.room.specs.declared.tally.Walked.the-variants.{Ends, Cut}
 use Rattle.room.specs.Walks.{Missing, between}

@@ -9,7 +9,7 @@ use lib.ListN.{length, take, drop}
 use Rattle.machine.specs.State.{State, base, marks, keyBytes}
 use Rattle.machine.specs.Calls.{short, broken}
 use Rattle.codec.specs.Codec.{writeRun}
-use Rattle.codec.specs.Places.{Stands}
+use Rattle.codec.specs.Stands.{Stands}
 use Rattle.layout.specs.Offsets.{idSize, partAt, entriesAt}
 use Rattle.layout.specs.Keys.{below}
 use Rattle.layout.specs.Records.{headForm, countsForm, entryForm}

@@ -8,7 +8,7 @@ use lib.ListN.{take, drop}
 use Rattle.codec.specs.Codec.{Codec, cut}
 use Rattle.layout.specs.Offsets.{lengthSize}
 use Rattle.layout.specs.Keys.{below}
-use Rattle.layout.specs.Places.{Part}
+use Rattle.layout.specs.Rows.{Part}
 use Rattle.room.specs.declared.tally.Tally.{Tally}
 use Rattle.room.specs.declared.tally.Walked.{Walked}
 use Rattle.room.specs.declared.tally.Walked.the-variants.{Ends, Cut}

@@ -10,7 +10,7 @@ use lib.Seq.{take-all}
 use borrow.Rule.Slice.PartAt.{part-to-end}
 use Rattle.codec.specs.Codec.{Item, item, cut}
 use Rattle.codec.specs.Formats.{number}
-use Rattle.codec.specs.Places.{Stands}
+use Rattle.codec.specs.Stands.{Stands}
 use Rattle.codec.proofs.NumberLaws.{length-number}
 use Rattle.machine.specs.State.{State, Ceilings}
 use Rattle.machine.specs.Calls.{Op, commit, batch, minimum, Call, on, holding, replied}

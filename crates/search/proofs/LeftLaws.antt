@@ -11,7 +11,7 @@ use Rattle.layout.specs.Offsets.{countSize, writesAt}
 use Rattle.codec.specs.Codec.{Codec}
 use Rattle.layout.specs.Keys.{keyForm, setForm, rangeForm, rangesForm, below, anyOrder}
 use Rattle.layout.specs.Records.{txnForm}
-use Rattle.layout.specs.Places.{Part, Here, Ends}
+use Rattle.layout.specs.Rows.{Part, Here, Ends}
 use Rattle.layout.proofs.OpenLaws.{open-set, open-ranges, open-txn}
 use Rattle.places.specs.declared.cursor.Cursor.{Cursor}
 use Rattle.places.specs.Cursors.{past, CountAt, Before, IsKey, Holds}

@@ -13,10 +13,10 @@ use Rattle.machine.specs.State.{Bytes, Txn, Entry, base}
 use Rattle.machine.specs.Sets.{tracks, conflict}
 use Rattle.layout.specs.Offsets.{numberSize, countSize, lengthSize, keysAt, startAt, writesAt}
 use Rattle.codec.specs.Formats.{number}
-use Rattle.codec.specs.Places.{Stands}
+use Rattle.codec.specs.Stands.{Stands}
 use Rattle.layout.specs.Keys.{keyForm, below}
 use Rattle.layout.specs.Records.{entryForm, txnForm}
-use Rattle.layout.specs.Places.{Part, Row, Here, Rows, Ends}
+use Rattle.layout.specs.Rows.{Part, Row, Here, Rows, Ends}
 use Rattle.layout.proofs.PartLaws.{number-read-is}
 use Rattle.layout.proofs.OpenLaws.{open-set, open-entry, open-txn}
 use Rattle.places.specs.declared.cursor.Cursor.{Cursor}

@@ -8,7 +8,7 @@ use lib.ListN.{length}
 use Rattle.machine.specs.Lists.{any}
 use Rattle.machine.proofs.ListLaws.{or-left}
 use Rattle.codec.specs.Codec.{Codec}
-use Rattle.layout.specs.Places.{Here, Ends}
+use Rattle.layout.specs.Rows.{Here, Ends}
 use Rattle.places.specs.declared.cursor.Cursor.{Cursor}
 use Rattle.places.specs.Cursors.{past, Before}
 use Rattle.places.proofs.CursorLaws.{before-here, before-next}

@@ -9,7 +9,7 @@ use Rattle.machine.specs.State.{Bytes, Txn, Entry, base}
 use Rattle.machine.specs.Sets.{conflict}
 use Rattle.layout.specs.Keys.{keyForm, rangeForm}
 use Rattle.layout.specs.Records.{entryForm, txnForm}
-use Rattle.layout.specs.Places.{Part, Row}
+use Rattle.layout.specs.Rows.{Part, Row}
 use Rattle.places.specs.Cursors.{Before}
 use Rattle.search.specs.declared.marks.Marks.{Marks}
 use Rattle.search.specs.Marks.{Mark, meets, listed, marksOf}

@@ -1,7 +1,7 @@
 // Check's search through a room that is known to hold a state.
 ghost use Rattle.machine.specs.State.{base};
 ghost use Rattle.layout.specs.Records.{entryForm, txnForm};
-ghost use Rattle.layout.specs.Places.{Here, Rows};
+ghost use Rattle.layout.specs.Rows.{Here, Rows};
 ghost use Rattle.search.specs.Search.{Searched};
 use crate::marks::Marks;
 use codec::numbers::read_eight;

@@ -3,7 +3,7 @@ ghost use mathlib.Core.Path.{_≡_};
 ghost use lib.Dec.{eqb};
 ghost use Rattle.machine.specs.State.{base};
 ghost use Rattle.layout.specs.Records.{txnForm};
-ghost use Rattle.layout.specs.Places.{Here};
+ghost use Rattle.layout.specs.Rows.{Here};
 ghost use Rattle.search.specs.Search.{marksLeft, Stays, MarksAt, Nexts, Meets};
 use layout::WRITES;
 use places::cursor::Cursor;

@@ -6,12 +6,12 @@ use lib.Seq.{paste}
 use Rattle.machine.specs.State.{Bytes, Txn, base}
 use Rattle.layout.specs.Offsets.{countSize, writesAt}
 use Rattle.codec.specs.Formats.{number}
-use Rattle.codec.specs.Places.{Stands}
+use Rattle.codec.specs.Stands.{Stands}
 use Rattle.codec.proofs.NumberLaws.{number-below}
 use Rattle.moves.specs.Splices.{Spliced}
 use Rattle.layout.specs.Keys.{setForm, rangesForm}
 use Rattle.layout.specs.Records.{txnForm}
-use Rattle.layout.specs.Places.{Part, Here, Ends}
+use Rattle.layout.specs.Rows.{Part, Here, Ends}
 use Rattle.layout.proofs.PartLaws.{part-one, number-read-is}
 use Rattle.layout.proofs.OpenLaws.{OpenTxn, open-txn, open-ranges}
 use Rattle.tracks.specs.Ranges.{Appendable, AppendedTo, Appended}

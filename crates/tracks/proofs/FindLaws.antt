@@ -12,7 +12,7 @@ use Rattle.machine.specs.State.{Bytes, base}
 use Rattle.machine.specs.Sets.{insert, stands}
 use Rattle.layout.specs.Offsets.{lengthSize}
 use Rattle.moves.proofs.SpliceLaws.{drop-take}
-use Rattle.layout.specs.Places.{Part, Row, Rows, Here, Ends}
+use Rattle.layout.specs.Rows.{Part, Row, Rows, Here, Ends}
 use Rattle.layout.proofs.RowLaws.{row-one, row-join}
 use Rattle.layout.proofs.OpenLaws.{open-key}
 use Rattle.tracks.specs.declared.sets.Found.{Found}

@@ -12,11 +12,11 @@ use Rattle.machine.specs.Sets.{insertAll}
 use Rattle.machine.proofs.SetLaws.{insertAll-longer}
 use Rattle.codec.specs.Codec.{writeRun, RunOk}
 use Rattle.codec.specs.Formats.{number, bind, via, run}
-use Rattle.codec.specs.Places.{Stands}
+use Rattle.codec.specs.Stands.{Stands}
 use Rattle.moves.specs.Splices.{Spliced, usedAfter}
 use Rattle.moves.proofs.SpliceLaws.{drop-take}
 use Rattle.layout.specs.Keys.{setForm, listForm, below}
-use Rattle.layout.specs.Places.{Part, Row, Ends}
+use Rattle.layout.specs.Rows.{Part, Row, Ends}
 use Rattle.layout.proofs.PartLaws.{part-one, part-ok, part-end, number-read-is}
 use Rattle.layout.proofs.RowLaws.{row-slice, row-of}
 use Rattle.layout.proofs.OpenLaws.{OpenList, open-set}

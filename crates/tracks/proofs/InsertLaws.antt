@@ -19,7 +19,7 @@ use Rattle.machine.proofs.SetLaws.{insertAll-longer, insertAll-bytes}
 use Rattle.layout.specs.Offsets.{lengthSize}
 use Rattle.moves.specs.Splices.{Spliced, usedAfter}
 use Rattle.moves.proofs.SpliceLaws.{drop-take}
-use Rattle.layout.specs.Places.{Row, Rows}
+use Rattle.layout.specs.Rows.{Row, Rows}
 use Rattle.layout.proofs.RowLaws.{row-inside, row-one}
 use Rattle.layout.proofs.OpenLaws.{open-key}
 use Rattle.tracks.specs.declared.sets.Found.{Found}

@@ -11,7 +11,7 @@ use Rattle.fields.specs.Forms.{ItemAt, sizeAt}
 use Rattle.machine.specs.State.{Bytes}
 use Rattle.layout.specs.Offsets.{lengthSize, tagSize}
 use Rattle.codec.specs.Formats.{number, raw, bind, only, via}
-use Rattle.codec.specs.Places.{Stands}
+use Rattle.codec.specs.Stands.{Stands}
 use Rattle.codec.proofs.NumberLaws.{stands-number, length-number}
 use Rattle.moves.proofs.SpliceLaws.{drop-take}
 use Rattle.layout.specs.Keys.{keyForm}

@@ -10,7 +10,7 @@ use lib.Seq.{length-take-le}
 use Rattle.codec.specs.Codec.{Codec, fine, writeRun, RunOk}
 use Rattle.moves.specs.Splices.{Spliced, usedAfter}
 use Rattle.layout.specs.Keys.{anyOrder}
-use Rattle.layout.specs.Places.{Row}
+use Rattle.layout.specs.Rows.{Row}
 use Rattle.layout.proofs.PartLaws.{part-ok}
 use Rattle.layout.proofs.RowLaws.{row-slice, row-of, write-append}
 

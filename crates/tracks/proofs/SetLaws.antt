@@ -13,7 +13,7 @@ use Rattle.codec.specs.Formats.{number}
 use Rattle.codec.proofs.NumberLaws.{length-number}
 use Rattle.layout.specs.Keys.{setForm, rangesForm}
 use Rattle.layout.specs.Records.{txnForm}
-use Rattle.layout.specs.Places.{Part, Ends}
+use Rattle.layout.specs.Rows.{Part, Ends}
 use Rattle.layout.proofs.PartLaws.{part-end}
 use Rattle.layout.proofs.OpenLaws.{OpenTxn, open-txn}
 use Rattle.answers.proofs.InsideLaws.{txn-bytes}

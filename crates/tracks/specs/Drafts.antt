@@ -10,7 +10,7 @@ use Rattle.machine.specs.State.{Bytes, base, setBytes}
 use Rattle.machine.specs.Sets.{insertAll}
 use Rattle.layout.specs.Offsets.{countSize, lengthSize}
 use Rattle.layout.specs.Keys.{setForm}
-use Rattle.layout.specs.Places.{Row}
+use Rattle.layout.specs.Rows.{Row}
 use Rattle.tracks.specs.Sets.{Key, Ready}
 use Rattle.tracks.specs.declared.drafts.Drafted.{Drafted}
 

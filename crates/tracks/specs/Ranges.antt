@@ -14,7 +14,7 @@ use Rattle.codec.specs.Formats.{number}
 use Rattle.moves.specs.Splices.{Spliced}
 use Rattle.layout.specs.Keys.{rangesForm}
 use Rattle.layout.specs.Records.{txnForm}
-use Rattle.layout.specs.Places.{Part}
+use Rattle.layout.specs.Rows.{Part}
 use Rattle.tracks.specs.declared.range.Judged.{Judged}
 
 -- "First in this order wins: .. 2, 4, 5"

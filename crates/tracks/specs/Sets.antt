@@ -13,7 +13,7 @@ use Rattle.machine.specs.Sets.{insert, insertAll}
 use Rattle.layout.specs.Offsets.{lengthSize}
 use Rattle.codec.specs.Codec.{Codec}
 use Rattle.layout.specs.Keys.{keyForm}
-use Rattle.layout.specs.Places.{Row}
+use Rattle.layout.specs.Rows.{Row}
 use Rattle.tracks.specs.declared.sets.Found.{Found}
 use Rattle.tracks.specs.declared.sets.Inserted.{Inserted}
 

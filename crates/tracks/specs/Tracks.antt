@@ -17,7 +17,7 @@ use Rattle.codec.specs.Formats.{number}
 use Rattle.moves.specs.Splices.{Spliced}
 use Rattle.layout.specs.Keys.{setForm}
 use Rattle.layout.specs.Records.{txnForm}
-use Rattle.layout.specs.Places.{Part}
+use Rattle.layout.specs.Rows.{Part}
 use Rattle.tracks.specs.declared.Grown.{Grown}
 
 -- the bytes of a transaction's record before the set

@@ -3,7 +3,7 @@ ghost use Rattle.machine.specs.State.{base};
 ghost use Rattle.machine.specs.Calls.{on, trackKeys};
 ghost use Rattle.layout.specs.Records.{txnForm};
 ghost use Rattle.layout.specs.Rooms.{Served};
-ghost use Rattle.layout.specs.Places.{Here};
+ghost use Rattle.layout.specs.Rows.{Here};
 ghost use Rattle.room.specs.Views.{Seen};
 ghost use Rattle.tracks.specs.Tracks.{SetAt, Growable, GrownIs};
 use crate::drafts::Drafted;

@@ -1,5 +1,5 @@
 // Sets of keys in a draft: the record of each key after the other, ascending.
-ghost use Rattle.layout.specs.Places.{Rows};
+ghost use Rattle.layout.specs.Rows.{Rows};
 ghost use Rattle.tracks.specs.Sets.{Key, FoundIs, Ready, InsertedIs};
 use fields::NextKey;
 use fields::next_key;

@@ -10,7 +10,7 @@ use lib.Dec.{eqb}
 use Rattle.machine.specs.State.{base}
 use Rattle.layout.specs.Keys.{keyForm}
 use Rattle.layout.specs.Records.{entryForm}
-use Rattle.layout.specs.Places.{Here}
+use Rattle.layout.specs.Rows.{Here}
 use Rattle.places.specs.declared.cursor.Cursor.{Cursor}
 use Rattle.places.proofs.MarkLaws.{key-room, key-ends}
 use Rattle.search.specs.Search.{marksLeft, Stays}

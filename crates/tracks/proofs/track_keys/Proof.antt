@@ -1,5 +1,5 @@
 -- Each way out has its law in KeysLaws; what is known of the arguments and of the transaction that was found is named first.
-use mathlib.Core.Path.{_≡_, sym, _∙_}
+use mathlib.Core.Path.{_≡_, sym, _∙_, subst}
 use mathlib.Core.Logic.{inl, inr}
 use native.Mathlib.Omega.{arith}
 use denote.Ref.{now}
@@ -12,6 +12,7 @@ use Rattle.places.specs.Finds.{Found}
 use Rattle.answers.proofs.SaidLaws.{said}
 use Rattle.answers.proofs.SeenLaws.{active-rows}
 use Rattle.answers.proofs.FoundLaws.{within, txn-here}
+use Rattle.tracks.specs.Tracks.{GrownIs}
 use Rattle.tracks.proofs.KeysLaws.{keys-refused, keys-too-long, keys-absent, growable, keys-full, keys-done}
 use borrow.Author.Needs.{needs}
 use Rattle.tracks.proofs.track_keys.Statement.{statement}
@@ -50,6 +51,9 @@ before-grow-set c = c .before
 
 abbrev start-grow-set : tie.After-grow-set → tie.Start
 start-grow-set c = start-grow-set-arg (c .before)
+
+abbrev grown : tie.After-n → tie.After-grow-set
+grown c = c .before .before .before .before
 
 -- what is known of the arguments, and of the transaction once it is found
 is-id : (c : tie.Else1) → length (now (c .before .before .before .before .args .id)) ≡ 16
@@ -98,7 +102,7 @@ same-length : tie.Need-same-length
 same-length c = search needs
 
 returns-2 : tie.Need-returns-2
-returns-2 c = said (c .done .ensures) (keys-done (start-grow-set (c .before .before .before .before .before .before) .pre) (start-grow-set (c .before .before .before .before .before .before) .args .which) (now (start-grow-set (c .before .before .before .before .before .before) .args .id)) (now (start-grow-set (c .before .before .before .before .before .before) .args .list)) (is-id (before-enum-told (before-at (before-set-at (before-grow-set-arg (before-grow-set (c .before .before .before .before .before .before))))))) (good (before-at (before-set-at (before-grow-set-arg (before-grow-set (c .before .before .before .before .before .before)))))) (found (before-set-at (before-grow-set-arg (before-grow-set (c .before .before .before .before .before .before))))) (before-grow-set-arg (before-grow-set (c .before .before .before .before .before .before)) .set-at .ensures) (rw (c .before .before .n .given .1) at (c .before .before .before .before .before .before .grow-set .ensures)))
+returns-2 c = said (c .done .ensures) (keys-done (start-grow-set (grown (c .before .before)) .pre) (start-grow-set (grown (c .before .before)) .args .which) (now (start-grow-set (grown (c .before .before)) .args .id)) (now (start-grow-set (grown (c .before .before)) .args .list)) (is-id (before-enum-told (before-at (before-set-at (before-grow-set-arg (before-grow-set (grown (c .before .before)))))))) (good (before-at (before-set-at (before-grow-set-arg (before-grow-set (grown (c .before .before))))))) (found (before-set-at (before-grow-set-arg (before-grow-set (grown (c .before .before)))))) (before-grow-set-arg (before-grow-set (grown (c .before .before))) .set-at .ensures) (subst (GrownIs _ _ _ _ _ _ _) (c .before .before .n .given .1) (grown (c .before .before) .grow-set .ensures)))
 
 enum-told-2 : tie.Need-enum-told-2
 enum-told-2 c = search needs

@@ -6,8 +6,11 @@ use borrow.Author.Needs.{needs}
 use Rattle.manager.proofs.transaction_manager.serve.Statement.{statement}
 use Rattle.manager.proofs.transaction_manager.serve.Tie as tie
 
+abbrev start : tie.After-view → tie.Start
+start c = c .before .before .before .before .before .before .before
+
 -- the view that the room opened with
-opened : (c : tie.After-view) → Seen (now (c .before .before .before .before .before .before .before .args .room)) (c .view .given .0 .0)
+opened : (c : tie.After-view) → Seen (now (start c .args .room)) (c .view .given .0 .0)
 opened c = rw (c .view .given .1) at (c .before .before .open .ensures)
 
 open-requires : tie.Need-open-requires

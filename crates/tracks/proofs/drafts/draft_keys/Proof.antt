@@ -1,5 +1,7 @@
 -- What is known of the keys behind the count is known of the whole record, its new count in front.
+use mathlib.Core.Path.{subst}
 use native.Mathlib.Omega.{arith}
+use Rattle.tracks.specs.Sets.{InsertedIs}
 use Rattle.tracks.proofs.DraftLaws.{keys-ready, none-added, end-inside, all-added}
 use borrow.Author.Needs.{needs}
 use Rattle.tracks.proofs.drafts.draft_keys.Statement.{statement}
@@ -18,6 +20,9 @@ part-insert-all-end c = search needs
 abbrev start-insert-all : tie.After-insert-all → tie.Start
 start-insert-all c = c .before .before .before .before
 
+abbrev inserted : tie.After-used → tie.After-insert-all
+inserted c = c .before .before .before .before
+
 insert-all-requires : tie.Need-insert-all-requires
 insert-all-requires c κs = keys-ready (c .before .before .before .pre)
 
@@ -28,13 +33,13 @@ write-two-requires : tie.Need-write-two-requires
 write-two-requires c κs = search needs
 
 add-t17 : tie.Need-add-t17
-add-t17 c = omega (arith, end-inside (c .before .before .before .before .before .before .before .before .before .before .before .before .before .pre) _ _ _ (rw (c .before .before .before .before .before .used .given .1) at (c .before .before .before .before .before .before .before .before .before .insert-all .ensures)))
+add-t17 c = omega (arith, end-inside (start-insert-all (inserted (c .before .before .before .before .before)) .pre) _ _ _ (subst (InsertedIs _ _ _ _ _ _ _) (c .before .before .before .before .before .used .given .1) (inserted (c .before .before .before .before .before) .insert-all .ensures)))
 
 same-length : tie.Need-same-length
 same-length c = search needs
 
 returns : tie.Need-returns
-returns c = all-added (c .before .before .before .before .before .before .before .before .before .before .before .before .before .pre) _ _ _ _ (rw (c .before .before .before .before .before .used .given .1) at (c .before .before .before .before .before .before .before .before .before .insert-all .ensures)) (c .before .before .write-two .ensures)
+returns c = all-added (start-insert-all (inserted (c .before .before .before .before .before)) .pre) _ _ _ _ (subst (InsertedIs _ _ _ _ _ _ _) (c .before .before .before .before .before .used .given .1) (inserted (c .before .before .before .before .before) .insert-all .ensures)) (c .before .before .write-two .ensures)
 
 enum-told : tie.Need-enum-told
 enum-told c = search needs

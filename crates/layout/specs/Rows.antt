@@ -4,7 +4,7 @@ use mathlib.Core.Path.{_≡_}
 use mathlib.Core.List.{List, [], _∷_}
 use lib.ListN.{length}
 use Rattle.codec.specs.Codec.{Codec}
-use Rattle.codec.specs.Places.{Stands}
+use Rattle.codec.specs.Stands.{Stands}
 
 -- the record of a stands from at up to e, within the bytes
 pub record Part {A : Type 0} (C : Codec A) (s : List ℕ) (at : ℕ) (a : A) (e : ℕ) : Type 0 where
