@@ -13,6 +13,25 @@ check-keys-requires c κs = search needs
 enum-told : tie.Need-enum-told
 enum-told c = search needs
 
+-- from what follows back to the place that it rests on
+abbrev check-keys-from-done : tie.After-done → tie.After-check-keys
+check-keys-from-done c = c .before .before .before .before .before .before .before .before .before .before
+
+abbrev enum-told3-from-done : tie.After-done → tie.After-enum-told3
+enum-told3-from-done c = c .before .before .before .before .before .before .before .before
+
+abbrev start-from-done : tie.After-done → tie.Start
+start-from-done c = c .before .before .before .before .before .before .before .before .before .before .before .before .before
+
+abbrev then1-from-done : tie.After-done → tie.Then1
+then1-from-done c = c .before .before .before .before .before .before
+
+abbrev check-keys-from-struct-known2 : tie.After-struct-known2 → tie.After-check-keys
+check-keys-from-struct-known2 c = c .before .before .before .before .before
+
+abbrev start-from-struct-known2 : tie.After-struct-known2 → tie.Start
+start-from-struct-known2 c = c .before .before .before .before .before .before .before .before
+
 returns : tie.Need-returns
 returns c = batch-no-list (c .before .before .before .before .before .pre) (sym (c .enum-told .given .1) ∙ c .before .before .check-keys .ensures)
 
@@ -38,13 +57,13 @@ same-length : tie.Need-same-length
 same-length c = search needs
 
 returns-3 : tie.Need-returns-3
-returns-3 c = said (c .done .ensures) (batch-nobody (c .before .before .before .before .before .before .before .before .before .before .before .before .before .pre) (sym (c .before .before .before .before .before .before .before .before .enum-told3 .given .1) ∙ c .before .before .before .before .before .before .before .before .before .before .check-keys .ensures) (c .before .before .before .before .before .before .if1 .taken) (c .before .before .before .before .before .larger .ensures) (c .before .before .before .empty-recent-committed-txns .ensures) (omega (arith, c .before .before .before .before .before .before .before .before .before .before .before .before .before .fits .seq)))
+returns-3 c = said (c .done .ensures) (batch-nobody (start-from-done c .pre) (sym (enum-told3-from-done c .enum-told3 .given .1) ∙ check-keys-from-done c .check-keys .ensures) (then1-from-done c .if1 .taken) (c .before .before .before .before .before .larger .ensures) (c .before .before .before .empty-recent-committed-txns .ensures) (omega (arith, start-from-done c .fits .seq)))
 
 returns-4 : tie.Need-returns-4
-returns-4 c = batch-many (c .before .before .before .before .before .before .before .before .before .pre) (sym (c .before .before .before .before .enum-told3 .given .1) ∙ c .before .before .before .before .before .before .check-keys .ensures) (omega (arith, c .before .before .if1 .left)) (omega (arith, c .if2 .taken))
+returns-4 c = batch-many (start-from-struct-known2 (c .before) .pre) (sym (c .before .before .before .before .enum-told3 .given .1) ∙ check-keys-from-struct-known2 (c .before) .check-keys .ensures) (omega (arith, c .before .before .if1 .left)) (omega (arith, c .if2 .taken))
 
 enter-keys-requires : tie.Need-enter-keys-requires
-enter-keys-requires c κs = (c .before .before .before .before .before .before .before .before .before .before .pre, entering (sym (c .before .before .before .before .before .enum-told3 .given .1) ∙ c .before .before .before .before .before .before .before .check-keys .ensures) (c .before .before .before .if1 .left) (omega (arith, c .before .if2 .left)))
+enter-keys-requires c κs = (start-from-struct-known2 (c .before .before) .pre, entering (sym (c .before .before .before .before .before .enum-told3 .given .1) ∙ check-keys-from-struct-known2 (c .before .before) .check-keys .ensures) (c .before .before .before .if1 .left) (omega (arith, c .before .if2 .left)))
 
 same-length-2 : tie.Need-same-length-2
 same-length-2 c = search needs
