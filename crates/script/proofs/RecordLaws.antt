@@ -93,19 +93,19 @@ module _ (bs : List ℕ) (at : ℕ) where
           low,
         )
 
-    pub too-long : 32768 < h * 256 + l → StopAt bs at
-    too-long k = record { reads = head-read ∙ rw (lt-leb (h * 256 + l) 32768 k) }
+    pub too-long : payloadLimit < h * 256 + l → StopAt bs at
+    too-long k = record { reads = head-read ∙ rw (lt-leb (h * 256 + l) payloadLimit k) }
 
-    pub payload-cut : h * 256 + l ≤ 32768 → length bs - at - 3 < h * 256 + l → MoreAt bs at
+    pub payload-cut : h * 256 + l ≤ payloadLimit → length bs - at - 3 < h * 256 + l → MoreAt bs at
     payload-cut k m =
         record {
           few = omega arith;
           reads =
               head-read
-              ∙ rw (le-leb (h * 256 + l) 32768 k, lt-leb (h * 256 + l) (length (drop (at + 3) bs)) (rw length-drop (omega arith)));
+              ∙ rw (le-leb (h * 256 + l) payloadLimit k, lt-leb (h * 256 + l) (length (drop (at + 3) bs)) (rw length-drop (omega arith)));
         }
 
-    pub record-here : h * 256 + l ≤ 32768 → h * 256 + l ≤ length bs - at - 3
+    pub record-here : h * 256 + l ≤ payloadLimit → h * 256 + l ≤ length bs - at - 3
         → WholeAt bs at (getD bs at 0) (at + 3) (at + 3 + (h * 256 + l))
     record-here k m =
         let d : at + 3 + (h * 256 + l) - (at + 3) ≡ h * 256 + l = omega arith in
@@ -116,7 +116,7 @@ module _ (bs : List ℕ) (at : ℕ) where
           reads =
               head-read
               ∙ rw (
-                le-leb (h * 256 + l) 32768 k,
+                le-leb (h * 256 + l) payloadLimit k,
                 le-leb (h * 256 + l) (length (drop (at + 3) bs)) (rw length-drop (omega arith)),
                 drop-take (at + 3) (at + 3 + (h * 256 + l)) bs,
                 d,

@@ -9,7 +9,7 @@ use lib.Dec.{leb}
 use lib.ListN.{length, take, drop, length-append, length-drop}
 use lib.Seq.{take-append-le, drop-append-le}
 use Rattle.script.proofs.RecordLaws.{sized, next-headed, next-unknown}
-use Rattle.script.specs.Stream.{Next, whole, more, stop, known, next}
+use Rattle.script.specs.Stream.{Next, whole, more, stop, known, next, payloadLimit}
 
 abbrev decided : Next → Bool
 decided (whole tag p rest) = true
@@ -22,7 +22,7 @@ behind c more = more
 behind c stop = stop
 
 sized-stays : (c : List ℕ) (tag n : ℕ) (bs : List ℕ) → decided (sized tag n bs) ≡ true → sized tag n (bs ++ c) ≡ behind c (sized tag n bs)
-sized-stays c tag n bs = go (leb n 32768) (leb n (length bs)) refl
+sized-stays c tag n bs = go (leb n payloadLimit) (leb n (length bs)) refl
   where
     at : Bool → Bool → List ℕ → Next
     at u v l = cond u (cond v (whole tag (take n l) (drop n l)) more) stop
@@ -77,7 +77,7 @@ shrinks (t ∷ h ∷ []) = go (known t)
     go : (b : Bool) → length (after (cond b more stop)) ≤ 2
     go true = omega arith
     go false = omega arith
-shrinks (t ∷ h ∷ l ∷ bs) = rw (next-headed t h l bs) (go (known t) (leb (h * 256 + l) 32768) (leb (h * 256 + l) (length bs)))
+shrinks (t ∷ h ∷ l ∷ bs) = rw (next-headed t h l bs) (go (known t) (leb (h * 256 + l) payloadLimit) (leb (h * 256 + l) (length bs)))
   where
     go : (u v w : Bool) → length (after (cond u (cond v (cond w (whole t (take (h * 256 + l) bs) (drop (h * 256 + l) bs)) more) stop) stop)) ≤ length (t ∷ h ∷ l ∷ bs)
     go false v w = omega arith

@@ -2,11 +2,9 @@
 ghost use mathlib.Core.Path.{_≡_};
 ghost use Prim.Native.Nat.{_<_};
 ghost use Rattle.script.specs.Records.{NextIs};
+use fields::FIELD_HEAD;
 
 pub const PAYLOAD_LIMIT: usize = 32768;
-
-// A record's tag and length take this many bytes.
-pub const HEAD: usize = 3;
 
 const FIRST_TAG: u8 = 0x01;
 
@@ -40,17 +38,17 @@ pub fn next_record(bytes: &[u8], at: usize) -> Next
     if LAST_TAG < tag {
         return Next::Stop;
     }
-    if left < HEAD {
+    if left < FIELD_HEAD {
         return Next::More;
     }
     let n = wide(bytes[at + 1]) * 256 + wide(bytes[at + 2]);
     if PAYLOAD_LIMIT < n {
         return Next::Stop;
     }
-    if left - HEAD < n {
+    if left - FIELD_HEAD < n {
         return Next::More;
     }
-    let from = at + HEAD;
+    let from = at + FIELD_HEAD;
     let to = from + n;
     Next::Whole { tag, from, to }
 }

@@ -15,6 +15,7 @@ use Rattle.codec.specs.Formats.{number, bind, via, run}
 use Rattle.codec.specs.Stands.{Stands}
 use Rattle.moves.specs.Splices.{Spliced, usedAfter}
 use Rattle.moves.proofs.SpliceLaws.{drop-take}
+use Rattle.layout.specs.Offsets.{countSize, lengthSize}
 use Rattle.layout.specs.Keys.{setForm, listForm, below}
 use Rattle.layout.specs.Rows.{Part, Row, Ends}
 use Rattle.layout.proofs.PartLaws.{part-one, part-ok, part-end, number-read-is}
@@ -23,24 +24,24 @@ use Rattle.layout.proofs.OpenLaws.{OpenList, open-set}
 use Rattle.layout.proofs.SizeLaws.{keys-length, set-length}
 use Rattle.tracks.specs.Sets.{Key}
 use Rattle.tracks.specs.declared.drafts.Drafted.{Drafted}
-use Rattle.tracks.specs.Drafts.{Begun, SetStands, DraftedIs}
+use Rattle.tracks.specs.Drafts.{setSize, Begun, SetStands, DraftedIs}
 use Rattle.tracks.specs.declared.Grown.{Grown}
 use Rattle.tracks.specs.Tracks.{Growable, Outcome, GrownIs}
 
 -- some bytes stand behind the first two of a draft
 pub record Copied (d src : Bytes) : Type 0 where
-  pub size : length d ≡ 34818
+  pub size : length d ≡ setSize
   pub rest : Bytes
-  pub is : drop 2 d ≡ src ++ rest
+  pub is : drop countSize d ≡ src ++ rest
 
-copied-to : (d0 d src : Bytes) → length d0 ≡ 34818 → 2 + length src ≤ 34818 → d ≡ paste d0 2 src (length src) → Copied d src
+copied-to : (d0 d src : Bytes) → length d0 ≡ setSize → countSize + length src ≤ setSize → d ≡ paste d0 countSize src (length src) → Copied d src
 copied-to d0 d src z h e =
-    let rest : Bytes = drop (2 + length src) d0 in
-    let f : d ≡ take 2 d0 ++ (src ++ rest) = e ∙ rw (take-length src) (append-assoc (take 2 d0) src rest) in
+    let rest : Bytes = drop (countSize + length src) d0 in
+    let f : d ≡ take countSize d0 ++ (src ++ rest) = e ∙ rw (take-length src) (append-assoc (take countSize d0) src rest) in
     record {
-      size = ap length e ∙ length-paste d0 2 src (length src) (omega arith) (le-refl _) ∙ z;
+      size = ap length e ∙ length-paste d0 countSize src (length src) (omega arith) (le-refl _) ∙ z;
       rest = rest;
-      is = ap (drop 2) f ∙ drop-at (take 2 d0) (src ++ rest) 2 (length-take-le 2 d0 (omega arith));
+      is = ap (drop countSize) f ∙ drop-at (take countSize d0) (src ++ rest) countSize (length-take-le countSize d0 (omega arith));
     }
 
 in-order : {s : Bytes} {at e : ℕ} (ks : List Bytes) → Part (setForm (base .key)) s at ks e → RunOk Key below none ks
@@ -51,7 +52,7 @@ module _ {s list : Bytes} {used at marks bytes : ℕ} (g : Growable s used at li
   opened : OpenList Key below s at (g .ks) (g .end)
   opened = open-set (base .key) (g .part)
 
-  pub head-inside : at + 2 ≤ length s
+  pub head-inside : at + countSize ≤ length s
   head-inside = opened .count-at .inside
 
   module _ {e : ℕ} (x : Ends (setForm (base .key)) s at e) where
@@ -60,15 +61,15 @@ module _ {s list : Bytes} {used at marks bytes : ℕ} (g : Growable s used at li
 
     -- where the set stands
     pub record Inside : Type 0 where
-      pub size : e ≡ at + (2 + 2 * length (g .ks) + setBytes (g .ks))
-      pub keys : e - (at + 2) ≡ 2 * length (g .ks) + setBytes (g .ks)
-      pub few : e - (at + 2) + 2 * marks + bytes ≤ 34816
+      pub size : e ≡ at + (countSize + lengthSize * length (g .ks) + setBytes (g .ks))
+      pub keys : e - (at + countSize) ≡ lengthSize * length (g .ks) + setBytes (g .ks)
+      pub few : e - (at + countSize) + lengthSize * marks + bytes ≤ lengthSize * base .marks + base .bytes
       pub within : e ≤ used
       pub inside : used ≤ length s
 
     pub set-inside : Inside
     set-inside =
-        let l : e ≡ at + (2 + 2 * length (g .ks) + setBytes (g .ks)) = ends-there ∙ part-end (setForm (base .key)) (g .part) ∙ rw (set-length (base .key) (g .ks)) in
+        let l : e ≡ at + (countSize + lengthSize * length (g .ks) + setBytes (g .ks)) = ends-there ∙ part-end (setForm (base .key)) (g .part) ∙ rw (set-length (base .key) (g .ks)) in
         record {
           size = l;
           keys = omega (arith, l);
@@ -79,34 +80,34 @@ module _ {s list : Bytes} {used at marks bytes : ℕ} (g : Growable s used at li
 
     -- the keys' bytes, as they are copied
     abbrev pub lent : Bytes
-    lent = take (e - (at + 2)) (drop (at + 2) s)
+    lent = take (e - (at + countSize)) (drop (at + countSize) s)
 
     lent-keys : lent ≡ writeRun Key (g .ks)
-    lent-keys = sym (drop-take (at + 2) e s) ∙ rw ends-there (row-slice Key s (at + 2) (g .ks) (g .end) (opened .row))
+    lent-keys = sym (drop-take (at + countSize) e s) ∙ rw ends-there (row-slice Key s (at + countSize) (g .ks) (g .end) (opened .row))
 
-    lent-length : length lent ≡ e - (at + 2)
+    lent-length : length lent ≡ e - (at + countSize)
     lent-length = ap length lent-keys ∙ keys-length (base .key) (g .ks) ∙ sym (set-inside .keys)
 
-    draft-room : 2 + length lent ≤ 34818
+    draft-room : countSize + length lent ≤ setSize
     draft-room = omega (arith, lent-length, set-inside .few)
 
-    pub fits-draft : 2 + length lent ≤ length (replicate {A = ℕ} 34818 0)
-    fits-draft = let z : length (replicate {A = ℕ} 34818 0) ≡ 34818 = length-replicate {A = ℕ} 34818 0 in rw z draft-room
+    pub fits-draft : countSize + length lent ≤ length (replicate {A = ℕ} setSize 0)
+    fits-draft = let z : length (replicate {A = ℕ} setSize 0) ≡ setSize = length-replicate {A = ℕ} setSize 0 in rw z draft-room
 
-    pub copied : (d : Bytes) → d ≡ paste (replicate 34818 0) 2 lent (length lent) → Copied d lent
-    copied d c = copied-to (replicate 34818 0) d lent (length-replicate {A = ℕ} 34818 0) draft-room c
+    pub copied : (d : Bytes) → d ≡ paste (replicate setSize 0) countSize lent (length lent) → Copied d lent
+    copied d c = copied-to (replicate setSize 0) d lent (length-replicate {A = ℕ} setSize 0) draft-room c
 
-    module _ {n : ℕ} (q : Stands (number 2) s at n (at + 2)) {d1 : Bytes} (c : Copied d1 lent) where
+    module _ {n : ℕ} (q : Stands (number countSize) s at n (at + countSize)) {d1 : Bytes} (c : Copied d1 lent) where
       count-is : n ≡ length (g .ks)
-      count-is = number-read-is 2 (opened .count-at) q
+      count-is = number-read-is countSize (opened .count-at) q
 
-      draft-row : Row Key (drop 2 d1) 0 (g .ks) (e - (at + 2))
+      draft-row : Row Key (drop countSize d1) 0 (g .ks) (e - (at + countSize))
       draft-row =
-          let f : drop 2 d1 ≡ writeRun Key (g .ks) ++ c .rest = c .is ∙ ap (λ (x : Bytes). x ++ c .rest) lent-keys in
-          let l : 0 + length (writeRun Key (g .ks)) ≡ e - (at + 2) = omega (arith, ap length lent-keys, lent-length) in
-          subst (Row Key (drop 2 d1) 0 (g .ks)) l (row-of Key below none (drop 2 d1) 0 (g .ks) (c .rest) (in-order (g .ks) (g .part)) (omega arith) f)
+          let f : drop countSize d1 ≡ writeRun Key (g .ks) ++ c .rest = c .is ∙ ap (λ (x : Bytes). x ++ c .rest) lent-keys in
+          let l : 0 + length (writeRun Key (g .ks)) ≡ e - (at + countSize) = omega (arith, ap length lent-keys, lent-length) in
+          subst (Row Key (drop countSize d1) 0 (g .ks)) l (row-of Key below none (drop countSize d1) 0 (g .ks) (c .rest) (in-order (g .ks) (g .part)) (omega arith) f)
 
-      pub begun : Begun d1 (e - (at + 2)) n list marks bytes
+      pub begun : Begun d1 (e - (at + countSize)) n list marks bytes
       begun =
           record {
             head = omega (arith, c .size);
@@ -118,7 +119,7 @@ module _ {s list : Bytes} {used at marks bytes : ℕ} (g : Growable s used at li
                   keys = g .keys;
                   listed = g .listed;
                   short = g .short;
-                  space = omega (arith, set-inside .few, c .size, length-drop 2 d1);
+                  space = omega (arith, set-inside .few, c .size, length-drop countSize d1);
                 };
           }
 
@@ -129,10 +130,10 @@ module _ {s list : Bytes} {used at marks bytes : ℕ} (g : Growable s used at li
           moved : (ks keys : List Bytes) (f : ℕ) → (g .ks ≡ ks) × (g .end ≡ f) → g .keys ≡ keys → Outcome s used at ks f (insertAll keys ks) marks bytes s' r
           moved ks keys f a b = rw (← a .0, ← b, ← a .1, ← ends-there) o
 
-      pub not-grown : {d2 : Bytes} → DraftedIs d1 (e - (at + 2)) n list marks bytes d2 Drafted.Full → GrownIs s used at list marks bytes s Grown.Full
+      pub not-grown : {d2 : Bytes} → DraftedIs d1 (e - (at + countSize)) n list marks bytes d2 Drafted.Full → GrownIs s used at list marks bytes s Grown.Full
       not-grown d = for-every (record { same = refl; passes = d .is (g .ks) (g .keys) draft-row (sym count-is) (g .listed) })
 
-      module _ {d2 : Bytes} {m k : ℕ} (d : DraftedIs d1 (e - (at + 2)) n list marks bytes d2 (Drafted.Set m k)) where
+      module _ {d2 : Bytes} {m k : ℕ} (d : DraftedIs d1 (e - (at + countSize)) n list marks bytes d2 (Drafted.Set m k)) where
         drafted : SetStands d2 (g .ks) (insertAll (g .keys) (g .ks)) marks bytes m k
         drafted = d .is (g .ks) (g .keys) draft-row (sym count-is) (g .listed)
 
@@ -147,7 +148,7 @@ module _ {s list : Bytes} {used at marks bytes : ℕ} (g : Growable s used at li
 
         pub can-put : (at + (e - at) ≤ used) × (used ≤ length s) × (usedAfter used (e - at) (take (m - 0) d2) ≤ length s)
         can-put =
-            let l : length (take (m - 0) d2) ≡ 2 + 2 * length (insertAll (g .keys) (g .ks)) + setBytes (insertAll (g .keys) (g .ks)) = ap length record-is ∙ set-length (base .key) (insertAll (g .keys) (g .ks)) in
+            let l : length (take (m - 0) d2) ≡ countSize + lengthSize * length (insertAll (g .keys) (g .ks)) + setBytes (insertAll (g .keys) (g .ks)) = ap length record-is ∙ set-length (base .key) (insertAll (g .keys) (g .ks)) in
             (omega (arith, set-inside .size, set-inside .within), omega (arith, g .space), omega (arith, l, set-inside .size, set-inside .within, drafted .few, drafted .small, g .space))
 
         pub grown : {s' : Bytes} → Spliced s used at (e - at) (take (m - 0) d2) s' → GrownIs s used at list marks bytes s' (Grown.New (k - n))

@@ -87,7 +87,7 @@ module _ {s : Bytes} {v : View} (n : Seen s v) (w : Which) (id list : Bytes) whe
         end-within : stands .end ≤ v .used
         end-within = omega (arith, stands .within, row-inside (txnForm (base .key)) s q (here n f .back) (v .used) (here n f .after))
 
-        pub growable : Growable s (v .used) at list (1024 - v .marks) (32768 - v .bytes)
+        pub growable : Growable s (v .used) at list (base .marks - v .marks) (base .bytes - v .bytes)
         growable =
             record {
               ks = setOf w one;
@@ -109,23 +109,23 @@ module _ {s : Bytes} {v : View} (n : Seen s v) (w : Which) (id list : Bytes) whe
         bytes-added : txnBytes (addKeys w (listed .keys) one) ≡ txnBytes one + b
         bytes-added = set-bytes w all one b (omega (arith, insertAll-bytes (listed .keys) ks))
 
-        pub keys-full : {s' : Bytes} → GrownIs s (v .used) at list (1024 - v .marks) (32768 - v .bytes) s' Grown.Full → Served s (on (trackKeys w id list)) 6 0 s'
+        pub keys-full : {s' : Bytes} → GrownIs s (v .used) at list (base .marks - v .marks) (base .bytes - v .bytes) s' Grown.Full → Served s (on (trackKeys w id list)) 6 0 s'
         keys-full {s'} r = ends (r .is ks (listed .keys) (stands .end) (stands .part) (listed .is))
           where
-            passed : (length ks + (1024 - v .marks) < length all) ⊎ (setBytes ks + (32768 - v .bytes) < setBytes all) → (base .marks < marks (n .state) + (length all - length ks)) ⊎ (base .bytes < keyBytes (n .state) + b)
+            passed : (length ks + (base .marks - v .marks) < length all) ⊎ (setBytes ks + (base .bytes - v .bytes) < setBytes all) → (base .marks < marks (n .state) + (length all - length ks)) ⊎ (base .bytes < keyBytes (n .state) + b)
             passed (inl x) = inl (omega (arith, x, n .marks, within n))
             passed (inr x) = inr (omega (arith, x, n .bytes, within n))
 
-            ends : NotGrown s ks all (1024 - v .marks) (32768 - v .bytes) s' → Served s (on (trackKeys w id list)) 6 0 s'
+            ends : NotGrown s ks all (base .marks - v .marks) (base .bytes - v .bytes) s' → Served s (on (trackKeys w id list)) 6 0 s'
             ends o =
                 let em = set-marks w all one (length all - length ks) (omega (arith, insertAll-longer (listed .keys) ks)) in
                 let e = track-full base (n .state) id (addKeys w (listed .keys)) one (addKeys w (listed .keys) one) (length all - length ks) b (found n f) refl refl em bytes-added (seen-held n .kept) (passed (o .passes)) in
                 rw (o .same) (refuse s (n .state) (trackKeys w id list) (seen-load n) full (tracks-on ∙ e))
 
-        pub keys-done : {s' : Bytes} {k : ℕ} → GrownIs s (v .used) at list (1024 - v .marks) (32768 - v .bytes) s' (Grown.New k) → Served s (on (trackKeys w id list)) 0 k s'
+        pub keys-done : {s' : Bytes} {k : ℕ} → GrownIs s (v .used) at list (base .marks - v .marks) (base .bytes - v .bytes) s' (Grown.New k) → Served s (on (trackKeys w id list)) 0 k s'
         keys-done {s'} {k} r = ends (r .is ks (listed .keys) (stands .end) (stands .part) (listed .is))
           where
-            ends : SetGrown s (v .used) at ks (stands .end) all (1024 - v .marks) (32768 - v .bytes) s' k → Served s (on (trackKeys w id list)) 0 k s'
+            ends : SetGrown s (v .used) at ks (stands .end) all (base .marks - v .marks) (base .bytes - v .bytes) s' k → Served s (on (trackKeys w id list)) 0 k s'
             ends o =
                 let t' : Txn = addKeys w (listed .keys) one in
                 let em = set-marks w all one k (o .new) in

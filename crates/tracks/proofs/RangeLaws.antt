@@ -121,16 +121,16 @@ module _ {s : Bytes} {v : View} (n : Seen s v) (id bs : Bytes) where
         abbrev one : Txn
         one = here n f .one
 
-        pub range-full : (1024 ≤ v .marks) ⊎ (32768 - v .bytes < k) → Served s (on (trackRange id bs)) 6 0 s
+        pub range-full : (base .marks ≤ v .marks) ⊎ (base .bytes - v .bytes < k) → Served s (on (trackRange id bs)) 6 0 s
         range-full w =
             refuse s (n .state) (trackRange id bs) (seen-load n) full
             (tracks ∙ track-full base (n .state) id (addRange (said .r)) one (addRange (said .r) one) 1 (rangeBytes (said .r)) (found n f) refl refl (one-mark (said .r) one) (its-bytes (said .r) one) (seen-held n .kept) (passed w))
           where
-            passed : (1024 ≤ v .marks) ⊎ (32768 - v .bytes < k) → (base .marks < marks (n .state) + 1) ⊎ (base .bytes < keyBytes (n .state) + rangeBytes (said .r))
+            passed : (base .marks ≤ v .marks) ⊎ (base .bytes - v .bytes < k) → (base .marks < marks (n .state) + 1) ⊎ (base .bytes < keyBytes (n .state) + rangeBytes (said .r))
             passed (inl x) = inl (omega (arith, x, n .marks))
             passed (inr x) = inr (omega (arith, x, n .bytes, within n, good .2))
 
-        module _ (small : (i : ℕ) → getD bs i 0 < 256) (hm : v .marks < 1024) (hb : k ≤ 32768 - v .bytes) where
+        module _ (small : (i : ℕ) → getD bs i 0 < 256) (hm : v .marks < base .marks) (hb : k ≤ base .bytes - v .bytes) where
           written : bs ≡ rangeForm (base .key) .write (said .r)
           written = bounds-record (base .key) bs (said .r) small (said .is)
 

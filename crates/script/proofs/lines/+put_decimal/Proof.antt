@@ -95,8 +95,10 @@ put-decimal-put-byte-requires-2 : (t : ℕ) → put-decimal-lts.Need-put-byte-re
   put-decimal.Post,
 ) (put-decimal-at t) put-decimal.Post
 put-decimal-put-byte-requires-2 t c κs =
-    let x = room-high (c .before .before .before .before .before .before .before .before .args .n) (c .before .before .before .before .before .before .before .before .args .at) _ (omega arith) (c .before .before .before .before .before .before .before .before .pre .1) in
-    omega (arith, x, c .before .before .before .before .put-decimal .ensures .ends)
+    let above = c .before .before .before .before in
+    let start = above .before .before .before .before in
+    let x = room-high (start .args .n) (start .args .at) _ (omega arith) (start .pre .1) in
+    omega (arith, x, above .put-decimal .ensures .ends)
 
 put-decimal-same-length-2 : (t : ℕ) → put-decimal-lts.Need-same-length-2 (
   digit-reads.Asked,
@@ -116,7 +118,11 @@ put-decimal-returns-2 : (t : ℕ) → put-decimal-lts.Need-returns-2 (
   put-decimal-below t,
   put-decimal.Post,
 ) (put-decimal-at t) put-decimal.Post
-put-decimal-returns-2 t c = put-high (omega arith) (c .before .before .before .digit2 .ensures) (c .before .before .before .before .before .before .before .put-decimal .ensures) (c .before .before .put-byte2 .ensures) (c .before .before .before .before .before .before .before .before .before .before .before .pre .1)
+put-decimal-returns-2 t c =
+    let last = c .before .before .before in
+    let above = last .before .before .before .before in
+    let start = above .before .before .before .before in
+    put-high (omega arith) (last .digit2 .ensures) (above .put-decimal .ensures) (c .before .before .put-byte2 .ensures) (start .pre .1)
 
 pub +put-decimal-spec : {M : Type 1} → statement M
 +put-decimal-spec = close μ-put-decimal λ t. put-decimal-lts.spec (
