@@ -1,4 +1,4 @@
-//! The archives and the replay program are for x86-64. On another processor the tests are built for it too and run under an emulator,
+//! The archive and the replay program are for x86-64. On another processor the tests are built for it too and run under an emulator,
 //! which cargo's own variable names: tools/target.
 
 use std::env;
