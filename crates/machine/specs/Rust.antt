@@ -1,5 +1,6 @@
 -- The Rust's manager as functions on values, with none of the machine's own steps. What it shares with the machine:
--- * values: Txn, an active TransactionState beside its id (its committed_seq is None); Range; the calls with their arguments;
+-- * values: Txn, an active TransactionState beside its id (its committed_seq is None); Range; the calls with their arguments, and which of two
+--   a `Which` picks;
 -- * a HashSet's one ascending list, where `extend` is insertAll; a HashMap's, where `insert` is put, `get` is find and `remove` is
 --   without; the equality of keys (laws in SetLaws.antt and ActiveLaws.antt);
 -- * tests and parts of a list, `any`, `keep` and `isNil`; whether a range holds a key; how lists and bounds are read from bytes.

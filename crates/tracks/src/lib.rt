@@ -1,4 +1,4 @@
-// Tracks of keys: those that an active transaction reads and writes, put into its record.
+// Tracks: the keys and ranges that an active transaction reads and writes, put into its record.
 ghost use Rattle.machine.specs.State.{base};
 ghost use Rattle.machine.specs.Calls.{on, trackKeys};
 ghost use Rattle.layout.specs.Records.{txnForm};

@@ -1,4 +1,4 @@
--- Refused in the table's order: malformed, not active; else the verdict is that of the search from the transaction that was found.
+-- Malformed, or not active; else the verdict is that of the search from the transaction that was found.
 use mathlib.Core.Path.{_≡_}
 use borrow.Author.Needs.{needs}
 use denote.Ref.{now}
