@@ -1,6 +1,6 @@
 -- What the machine answers to a commit, a batch and a drop, from plain facts on the state.
 use Prim.Native.Nat.{ℕ, suc, _+_, _≤_, _<_, max}
-use mathlib.Core.Path.{_≡_, refl, ap, _∙_}
+use mathlib.Core.Path.{_≡_, sym, ap, _∙_, subst}
 use mathlib.Core.Bool.{true, false}
 use mathlib.Core.List.{List, [], _∷_, _++_}
 use mathlib.Core.Option.{none, some}
@@ -11,12 +11,12 @@ use Rattle.fields.specs.Fields.{keyList}
 use Rattle.fields.specs.Forms.{shortKeys}
 use Rattle.machine.specs.Lists.{keep, sum}
 use Rattle.machine.specs.State.{Bytes, Txn, Entry, State, Ceilings, withActive, withEntries, advanced, Fits, MachineState, marks, keyBytes, txnMarks, txnBytes, entryMarks, entryBytes, setBytes, idSize}
-use Rattle.machine.specs.Sets.{insertAll, find, without, prune, anyActive}
+use Rattle.machine.specs.Sets.{insertAll, find, without, pruned, anyActive, emptiedIfIdle, emptied}
 use Rattle.machine.specs.Calls.{commit, batch, dropTxn, malformed, longKey, full, done, absent, refused}
-use Rattle.machine.specs.Serve.{entry, enter, answer}
+use Rattle.machine.specs.Serve.{entry, enter, answer, settle, entered}
 use Rattle.machine.proofs.Kept.{fits-means}
-use Rattle.machine.proofs.ListLaws.{sum-append}
-use Rattle.machine.proofs.EntryLaws.{empty-rule, rule-idle, anyone-keeps}
+use Rattle.machine.proofs.ListLaws.{sum-one}
+use Rattle.machine.proofs.EntryLaws.{anyone-keeps, emptied-is}
 use Rattle.machine.proofs.ActiveLaws.{without-sum, without-length, without-same}
 use Rattle.answers.proofs.StateLaws.{is-id, no-id, fits-not}
 
@@ -26,27 +26,29 @@ some-left left es h = anyone-keeps left es (λ e. omega (arith, h, ap (length {A
 one-more : (es : List Entry) (e : Entry) → length (es ++ (e ∷ [])) ≡ suc (length es)
 one-more es e = length-append es (e ∷ []) ∙ omega arith
 
-sum-one : (f : Entry → ℕ) (es : List Entry) (e : Entry) → sum f (es ++ (e ∷ [])) ≡ sum f es + f e
+nothing-fits : (L : Ceilings) (s : State) → Fits L (emptied s)
 unfolding sum
-sum-one f es e = sum-append f es (e ∷ []) ∙ omega arith
+nothing-fits L s =
+    subst (Fits L) (sym (emptied-is s)) (record { active = omega arith; entries = omega arith; marks = omega arith; bytes = omega arith })
 
--- the state after an entry by those who are left, and where nobody is
+-- the state after an entry while others are active: nothing is emptied
 abbrev pub joined : List Txn → ℕ → List Bytes → State → State
 joined left n ks s = withEntries (s .entries ++ (entry n ks ∷ [])) (withActive left (advanced n s))
 
-abbrev pub emptied : ℕ → State → State
-emptied n s = withEntries [] (withActive [] (advanced n s))
-
-nothing-fits : (L : Ceilings) (n : ℕ) (s : State) → Fits L (emptied n s)
-unfolding sum
-nothing-fits L n s = record { active = omega arith; entries = omega arith; marks = omega arith; bytes = omega arith }
+-- with nobody active nothing is left of an entry
+pub entry-gone : (n : ℕ) (ks : List Bytes) (s : State) → emptied (joined [] n ks s) ≡ emptied (advanced n s)
+entry-gone n ks s = emptied-is (joined [] n ks s) ∙ sym (emptied-is (advanced n s))
 
 module _ (L : Ceilings) (s : State) (left : List Txn) (n : ℕ) (ks : List Bytes) where
   abbrev listed : List Entry
   listed = s .entries ++ (entry n ks ∷ [])
 
-  enter-idle : left ≡ [] → enter L s left n ks ≡ done (max (s .last) n) (emptied n s)
-  enter-idle e = rw (e, rule-idle anyActive empty-rule [] listed refl, fits-means L (emptied n s) .1 (nothing-fits L n s))
+  -- where nobody is left, the list is emptied, the new entry with it
+  entered-idle : left ≡ [] → entered left n ks s ≡ emptied (joined [] n ks s)
+  entered-idle e = ap (λ (ts : List Txn). emptiedIfIdle (joined ts n ks s)) e
+
+  enter-idle : left ≡ [] → enter L s left n ks ≡ done (max (s .last) n) (emptied (joined [] n ks s))
+  enter-idle e = ap (settle L (max (s .last) n)) (entered-idle e) ∙ rw (fits-means L (emptied (joined [] n ks s)) .1 (nothing-fits L (joined [] n ks s)))
 
   enter-full : 0 < length left → (Fits L (joined left n ks s) → ⊥) → enter L s left n ks ≡ refused full
   enter-full h k = rw (some-left left listed h, fits-not L (joined left n ks s) k)
@@ -68,7 +70,7 @@ module _ (L : Ceilings) (s : State) (i : Bytes) (n : ℕ) where
     unfolding answer
     commit-enters = rw (is-id i h, e)
 
-    pub commit-alone : without i (s .active) ≡ [] → answer L s (commit i n) ≡ done (max (s .last) n) (emptied n s)
+    pub commit-alone : without i (s .active) ≡ [] → answer L s (commit i n) ≡ done (max (s .last) n) (emptied (joined [] n (t .writes) s))
     commit-alone k = commit-enters ∙ enter-idle L s (without i (s .active)) n (t .writes) k
 
     pub commit-full : 0 < length (without i (s .active)) → L .entries ≤ length (s .entries) → answer L s (commit i n) ≡ refused full
@@ -103,7 +105,7 @@ module _ (L : Ceilings) (s : State) (n : ℕ) (bs : Bytes) where
       unfolding answer
       batch-enters = rw (e, k)
 
-      pub batch-idle : s .active ≡ [] → answer L s (batch n bs) ≡ done (max (s .last) n) (emptied n s)
+      pub batch-idle : s .active ≡ [] → answer L s (batch n bs) ≡ done (max (s .last) n) (emptied (joined [] n (insertAll ks []) s))
       batch-idle q = batch-enters ∙ enter-idle L s (s .active) n (insertAll ks []) q
 
       -- an entry too many, or a total that would be passed
@@ -138,11 +140,11 @@ module _ (L : Ceilings) (s : State) (i : Bytes) where
   unfolding answer
   drop-malformed h = rw (no-id i h)
 
-  pub drop-absent : (es : List Entry) → length i ≡ idSize → find i (s .active) ≡ none → prune (s .active) (s .entries) ≡ es → answer L s (dropTxn i) ≡ absent (length es) (withEntries es s)
+  pub drop-absent : length i ≡ idSize → find i (s .active) ≡ none → answer L s (dropTxn i) ≡ absent (length (pruned s .entries)) (pruned s)
   unfolding answer
-  drop-absent es h e p = rw (is-id i h, e, without-same i (s .active) e, p)
+  drop-absent h e = rw (is-id i h, e, without-same i (s .active) e)
 
-  pub drop-done : (t : Txn) (left : List Txn) (es : List Entry) → length i ≡ idSize → find i (s .active) ≡ some t → without i (s .active) ≡ left → prune left (s .entries) ≡ es
-      → answer L s (dropTxn i) ≡ done (length es) (withEntries es (withActive left s))
+  pub drop-done : (t : Txn) (left : List Txn) → length i ≡ idSize → find i (s .active) ≡ some t → without i (s .active) ≡ left
+      → answer L s (dropTxn i) ≡ done (length (pruned (withActive left s) .entries)) (pruned (withActive left s))
   unfolding answer
-  drop-done t left es h e w p = rw (is-id i h, e, w, p)
+  drop-done t left h e w = rw (is-id i h, e, w)

@@ -7,8 +7,9 @@ use lib.ListN.{length, length-append}
 use Rattle.machine.specs.State.{Bytes, Txn, base}
 use Rattle.machine.specs.Sets.{without}
 use Rattle.moves.specs.Splices.{Spliced}
+use Rattle.layout.specs.Offsets.{anyLength}
 use Rattle.layout.specs.Records.{txnForm}
-use Rattle.layout.proofs.PartLaws.{part-end}
+use Rattle.layout.proofs.FillLaws.{fills-end}
 use Rattle.layout.proofs.RowLaws.{row-inside, row-end}
 use Rattle.room.specs.declared.View.{View}
 use Rattle.room.specs.Views.{Seen}
@@ -16,10 +17,10 @@ use Rattle.places.specs.declared.finds.Place.{Place}
 use Rattle.places.specs.Finds.{HereIn, Found}
 use Rattle.places.proofs.FindLaws.{here-without}
 use Rattle.layout.specs.States.{headsOf}
-use Rattle.edits.specs.Laid.{Laid, entriesOf, activeOf}
+use Rattle.edits.specs.Laid.{Laid, writeEntries, writeActive}
 use Rattle.edits.proofs.LaidLaws.{relaid}
 use Rattle.edits.proofs.ChangeLaws.{laid-out}
-use Rattle.answers.proofs.SeenLaws.{seen-held, seen-laid}
+use Rattle.answers.proofs.SeenLaws.{seen-held, seen-laid, seen-middle}
 use Rattle.answers.proofs.FoundLaws as F
 
 module _ {s : List ℕ} {v : View} (w : Seen s v) where
@@ -47,11 +48,11 @@ module _ {s : List ℕ} {v : View} (w : Seen s v) where
 
     pub here-bounds : Bounds
     here-bounds =
-        let a = row-inside (txnForm (base .key)) s (v .middle) (here .front) p (here .before) in
-        let b = row-inside (txnForm (base .key)) s q (here .back) (v .used) (here .after) in
-        record { after = a .0; from = here .part .from; within = b .0; inside = b .1; some = omega (arith, left-many) }
+        let a = row-inside (txnForm anyLength) s (v .middle) (here .front) p (here .before) in
+        let b = row-inside (txnForm anyLength) s q (here .back) (v .used) (here .after) in
+        record { after = a .0; from = here .fills .from; within = b .0; inside = b .1; some = omega (arith, left-many) }
 
-    pub here-out : {s1 : List ℕ} → Spliced s (v .used) p (q - p) [] s1 → Laid s s1 (v .used - (q - p)) (headsOf (w .state)) (entriesOf (w .state .entries)) (activeOf left)
+    pub here-out : {s1 : List ℕ} → Spliced s (v .used) p (q - p) [] s1 → Laid base s s1 (v .used - (q - p)) (headsOf (w .state)) (writeEntries (w .state .entries)) (writeActive left)
     here-out x =
-        let a : p ≡ v .middle + length (activeOf (here .front)) = row-end (txnForm (base .key)) s (v .middle) (here .front) p (here .before) in
-        laid-out (here .front) (here .back) (here .one) (relaid refl refl refl (ap activeOf (here .whole)) (seen-laid w)) (omega (arith, a, w .middle)) (omega (arith, part-end (txnForm (base .key)) (here .part))) x
+        let a : p ≡ v .middle + length (writeActive (here .front)) = row-end (txnForm anyLength) s (v .middle) (here .front) p (here .before) in
+        laid-out (here .front) (here .back) (here .one) (relaid refl refl refl (ap writeActive (here .whole)) (seen-laid w)) (omega (arith, a, seen-middle w)) (omega (arith, fills-end (txnForm anyLength) (here .fills))) x

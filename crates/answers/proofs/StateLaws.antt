@@ -8,11 +8,10 @@ use native.Mathlib.Omega.{arith}
 use borrow.Author.Tests.{eq-eqb, ne-eqb}
 use lib.ListN.{length}
 use Rattle.machine.specs.Lists.{sum}
-use Rattle.machine.specs.State.{Bytes, Txn, State, Ceilings, newTxn, fits, Fits, marks, txnMarks, txnBytes, idSize}
+use Rattle.machine.specs.State.{Bytes, Txn, State, Ceilings, newTxn, fits, Fits, txnMarks, txnBytes, idSize}
 use Rattle.machine.specs.Sets.{find, leastOf, conflict}
 use Rattle.machine.specs.Calls.{begin, check, minimum, malformed, again, full, done, absent, refused}
-use Rattle.machine.specs.Serve.{isId, verdict, answer}
-use Rattle.machine.specs.Serve as Serve
+use Rattle.machine.specs.Serve.{isId, verdict, answer, begun}
 use Rattle.machine.proofs.Kept.{fits-means}
 use Rattle.machine.proofs.ActiveLaws.{put-new-length, put-new-sum}
 
@@ -21,11 +20,6 @@ is-id i e = eq-eqb (length i) idSize e
 
 pub no-id : (i : Bytes) → (length i ≡ idSize → ⊥) → isId i ≡ false
 no-id i e = ne-eqb (length i) idSize e
-
--- nobody is active where nobody is counted
-pub none-left : (ts : List Txn) → length ts ≡ 0 → ts ≡ []
-none-left [] e = refl
-none-left (t ∷ ts) e = absurd (omega (arith, e))
 
 -- what is not true is false
 pub not-true : (b : Bool) → (b ≡ true → ⊥) → b ≡ false
@@ -36,9 +30,6 @@ pub fits-not : (L : Ceilings) (s : State) → (Fits L s → ⊥) → fits L s �
 fits-not L s h = not-true (fits L s) (λ e. h (fits-means L s .0 e))
 
 module _ (L : Ceilings) (s : State) (i : Bytes) where
-  abbrev pub begun : State
-  begun = Serve.begun i s
-
   pub begin-malformed : (length i ≡ idSize → ⊥) → answer L s (begin i) ≡ refused malformed
   unfolding answer
   begin-malformed h = rw (no-id i h)
@@ -49,9 +40,9 @@ module _ (L : Ceilings) (s : State) (i : Bytes) where
 
   pub begin-full : length i ≡ idSize → find i (s .active) ≡ none → L .active ≤ length (s .active) → answer L s (begin i) ≡ refused full
   unfolding answer
-  begin-full h e k = rw (is-id i h, e, fits-not L begun (λ f. omega (arith, f .active, put-new-length (newTxn i (s .last)) (s .active) e)))
+  begin-full h e k = rw (is-id i h, e, fits-not L (begun i s) (λ f. omega (arith, f .active, put-new-length (newTxn i (s .last)) (s .active) e)))
 
-  pub begin-fits : find i (s .active) ≡ none → length (s .active) < L .active → Fits L s → Fits L begun
+  pub begin-fits : find i (s .active) ≡ none → length (s .active) < L .active → Fits L s → Fits L (begun i s)
   unfolding sum
   begin-fits e k f =
       let t : Txn = newTxn i (s .last) in
@@ -62,9 +53,9 @@ module _ (L : Ceilings) (s : State) (i : Bytes) where
         bytes = omega (arith, f .bytes, put-new-sum txnBytes t (s .active) e);
       }
 
-  pub begin-done : length i ≡ idSize → find i (s .active) ≡ none → length (s .active) < L .active → Fits L s → answer L s (begin i) ≡ done (s .last) begun
+  pub begin-done : length i ≡ idSize → find i (s .active) ≡ none → length (s .active) < L .active → Fits L s → answer L s (begin i) ≡ done (s .last) (begun i s)
   unfolding answer
-  begin-done h e k f = rw (is-id i h, e, fits-means L begun .1 (begin-fits e k f))
+  begin-done h e k f = rw (is-id i h, e, fits-means L (begun i s) .1 (begin-fits e k f))
 
   pub check-malformed : (length i ≡ idSize → ⊥) → answer L s (check i) ≡ refused malformed
   unfolding answer

@@ -6,7 +6,7 @@ use native.Mathlib.Omega.{arith}
 use lib.ListN.{length, drop, length-append, length-drop}
 use lib.Seq.{drop-append-seam, drop-append-add}
 use Rattle.codec.specs.Codec.{Item, item, cut, Codec, writeRun}
-use Rattle.codec.specs.Formats.{bind, run}
+use Rattle.codec.specs.Formats.{bind}
 use Rattle.codec.specs.Stands.{Stands}
 
 module _ {A : Type 0} (C : Codec A) where
@@ -23,6 +23,10 @@ module _ {A : Type 0} (C : Codec A) where
       let y : drop (length p + length (C .write a)) s ≡ q =
       ap (drop (length p + length (C .write a))) e ∙ drop-append-add p (C .write a ++ q) (length (C .write a)) ∙ drop-append-seam (C .write a) q in
       record { reads = rw (x, y) (C .write-is a q o) }
+
+  -- two readings at a place agree
+  pub stands-one : {s : List ℕ} {at e f : ℕ} {a b : A} → Stands C s at a e → Stands C s at b f → a ≡ b
+  stands-one {s} {at} {e} {f} {a} {b} p q = let g : item a (drop e s) ≡ item b (drop f s) = sym (p .reads) ∙ q .reads in cc g
 
   pub stands-length : {s : List ℕ} {at e : ℕ} {a : A} → Stands C s at a e → at ≤ length s → e ≤ length s → e ≡ at + length (C .write a)
   stands-length {s} {at} {e} {a} w h k =

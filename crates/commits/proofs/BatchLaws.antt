@@ -20,7 +20,7 @@ use Rattle.codec.specs.Codec.{writeRun}
 use Rattle.codec.specs.Formats.{number}
 use Rattle.codec.proofs.NumberLaws.{length-number}
 use Rattle.moves.specs.Splices.{Spliced}
-use Rattle.layout.specs.Offsets.{numberSize, countSize, partAt, entryCountAt}
+use Rattle.layout.specs.Offsets.{numberSize, countSize, partAt, entryCountAt, anyLength}
 use Rattle.layout.specs.Keys.{setForm}
 use Rattle.layout.specs.Records.{entryForm}
 use Rattle.layout.specs.States.{headsOf, setEntryCount, roomSize}
@@ -28,20 +28,21 @@ use Rattle.layout.specs.Rooms.{Served}
 use Rattle.layout.proofs.RowLaws.{write-append}
 use Rattle.layout.proofs.SizeLaws.{set-length, entry-length, state-length, fits-size}
 use Rattle.layout.proofs.LoadLaws.{refuse, change}
+use Rattle.layout.proofs.WideLaws.{short-wide}
 use Rattle.room.specs.declared.View.{View}
 use Rattle.room.specs.Views.{Seen}
 use Rattle.tracks.specs.declared.drafts.Drafted.{Drafted}
 use Rattle.tracks.specs.Drafts.{setSize, Begun, SetStands, DraftedIs}
-use Rattle.edits.specs.Laid.{entriesOf}
+use Rattle.edits.specs.Laid.{writeEntries}
 use Rattle.edits.specs.Leaving.{Emptied}
 use Rattle.edits.proofs.LaidLaws.{laid-used, laid-entries}
 use Rattle.edits.proofs.ChangeLaws.{laid-enter}
-use Rattle.edits.specs.Advance.{Advanced}
+use Rattle.edits.specs.Advance.{AdvancedTo}
 use Rattle.answers.proofs.EnterLaws.{batch-malformed, batch-long, batch-idle, batch-full, batch-done}
 use Rattle.commits.specs.Batches.{Entering}
-use Rattle.answers.proofs.SeenLaws.{seen-load, seen-held, seen-laid}
+use Rattle.answers.proofs.SeenLaws.{seen-load, seen-held, seen-laid, seen-middle}
 use Rattle.answers.proofs.FoundLaws.{within}
-use Rattle.answers.proofs.StateLaws.{none-left}
+use Rattle.machine.proofs.ListLaws.{none-left}
 use Rattle.answers.proofs.FormLaws.{no-list, long-list, good-list}
 use Rattle.answers.proofs.AdvanceLaws.{advance-changed, empty-advanced}
 
@@ -56,12 +57,12 @@ module _ {s : List ℕ} {v : View} (w : Seen s v) {seq : ℕ} {list : Bytes} whe
       let l = long-list (keyList list) e in
       refuse s (w .state) (batch seq list) (seen-load w) longKey (batch-long base (w .state) seq list (l .keys) (l .is) (l .short))
 
-  pub batch-nobody : {r : ℕ} {s' : List ℕ} → Form.Good ≡ formOf (keyList list) → v .active ≡ 0 → r ≡ max (v .last) seq → Emptied s r s' → seq < 256 ^ 8
+  pub batch-nobody : {r : ℕ} {s' : List ℕ} → Form.Good ≡ formOf (keyList list) → v .active ≡ 0 → r ≡ max (v .last) seq → Emptied s r s' → seq < 256 ^ numberSize
       → Served s (on (batch seq list)) 0 r s'
   batch-nobody {r} {s'} e k m c b =
       let st = w .state in
       let l = good-list (keyList list) e in
-      let y = empty-advanced w m c b in
+      let y = empty-advanced w (insertAll (l .keys) []) m c b in
       rw (y .1) (change s s' st _ (batch seq list) (seen-load w) (y .0) _ (batch-idle base st seq list (l .keys) (l .is) (l .short) (none-left (st .active) (omega (arith, k, w .active)))))
 
   pub batch-many : Form.Good ≡ formOf (keyList list) → (v .active ≡ 0 → ⊥) → base .entries ≤ v .entries → Served s (on (batch seq list)) 6 0 s
@@ -80,7 +81,7 @@ begun d m b x l hm hb =
     let n : length (drop countSize d) ≡ setSize - countSize = length-drop countSize d ∙ omega (arith, l) in
     record {
       head = omega (arith, l);
-      keys = record { ks = []; row = (refl, omega arith); count = refl; keys = x .keys; listed = x .listed; short = x .short; space = omega (arith, n, hm, hb) };
+      keys = record { ks = []; row = (refl, omega arith); count = refl; keys = x .keys; listed = x .listed; short = short-wide (base .key) (omega arith) (x .keys) (x .short); space = omega (arith, n, hm, hb) };
     }
 
 -- a machine state answers with one
@@ -89,12 +90,12 @@ unfolding serve
 done-ok st c n st' e o = subst (RoomOk base) (ap (λ (x : Answer). reply st x .room) e) (serve-keeps base (holding st) (on c) o)
 
 -- an entry more, in bytes
-one-more : (es : List Entry) (n : ℕ) (ks : List Bytes) → length (entriesOf (es ++ (entry n ks ∷ []))) ≡ length (entriesOf es) + (numberSize + length (setForm (base .key) .write ks))
+one-more : (es : List Entry) (n : ℕ) (ks : List Bytes) → length (writeEntries (es ++ (entry n ks ∷ []))) ≡ length (writeEntries es) + (numberSize + length (setForm anyLength .write ks))
 unfolding writeRun
 one-more es n ks =
     let x : Entry = entry n ks in
-    let e : length (entryForm (base .key) .write x ++ []) ≡ length (entryForm (base .key) .write x) + 0 = length-append (entryForm (base .key) .write x) [] in
-    ap length (write-append (entryForm (base .key)) es (x ∷ [])) ∙ length-append (entriesOf es) (entryForm (base .key) .write x ++ []) ∙ omega (arith, e, entry-length (base .key) x, set-length (base .key) ks)
+    let e : length (entryForm anyLength .write x ++ []) ≡ length (entryForm anyLength .write x) + 0 = length-append (entryForm anyLength .write x) [] in
+    ap length (write-append (entryForm anyLength) es (x ∷ [])) ∙ length-append (writeEntries es) (entryForm anyLength .write x ++ []) ∙ omega (arith, e, entry-length anyLength x, set-length anyLength ks)
 
 -- ---- the entry
 
@@ -126,7 +127,7 @@ module _ {s : List ℕ} {v : View} (w : Seen s v) {list : Bytes} (x : Entering v
     pub set-inside : end ≤ length d'
     set-inside = set .inside
 
-    set-bytes : take (end - 0) d' ≡ setForm (base .key) .write all
+    set-bytes : take (end - 0) d' ≡ setForm anyLength .write all
     set-bytes = let e : end - 0 ≡ end = omega arith in ap (λ (k : ℕ). take k d') e ∙ set .whole
 
     -- the state with the entry
@@ -140,23 +141,23 @@ module _ {s : List ℕ} {v : View} (w : Seen s v) {list : Bytes} (x : Entering v
         batch-done base (w .state) seq list (x .keys) (x .listed) (x .short) someone (omega (arith, x .entries, w .entries)) (omega (arith, set .few, w .marks, below .0)) (omega (arith, set .small, w .bytes, below .1)) (seen-held w .kept)
 
     -- the state's record with the entry fits
-    fits : (seq : ℕ) → v .used + (numberSize + length (setForm (base .key) .write all)) ≤ roomSize base
+    fits : (seq : ℕ) → v .used + (numberSize + length (setForm anyLength .write all)) ≤ roomSize base
     fits seq =
         let st = w .state in
         let st' : State = advanced seq (more seq) in
         let o = done-ok st (batch seq list) (max (st .last) seq) st' (answers seq) (seen-held w .kept) in
-        omega (arith, fits-size base (base .key) st' (o .ceilings) (all-map _ _ (λ t k. k .id-length) (st .active) (o .txns)), state-length (base .key) st', one-more (st .entries) seq all, laid-used (seen-laid w))
+        omega (arith, fits-size base anyLength st' (o .ceilings) (all-map _ _ (λ t k. k .id-length) (st .active) (o .txns)), state-length anyLength st', one-more (st .entries) seq all, laid-used (seen-laid w))
 
     pub batch-room : (v .middle ≤ v .used) × (v .used + (numberSize + length (take (end - 0) d')) ≤ length s)
-    batch-room = (omega (arith, w .middle, laid-used (seen-laid w)), omega (arith, ap length set-bytes, fits 0, w .size))
+    batch-room = (omega (arith, seen-middle w, laid-used (seen-laid w)), omega (arith, ap length set-bytes, fits 0, w .size))
 
-    pub batch-entered : {s1 s2 s3 : List ℕ} {seq r : ℕ} → Spliced s (v .used) (v .middle) 0 (number numberSize .write seq ++ take (end - 0) d') s1 → s2 ≡ paste s1 entryCountAt (number countSize .write (v .entries + 1)) countSize → Advanced s2 seq s3 r → seq < 256 ^ 8
+    pub batch-entered : {s1 s2 s3 : List ℕ} {seq r : ℕ} → Spliced s (v .used) (v .middle) 0 (number numberSize .write seq ++ take (end - 0) d') s1 → s2 ≡ paste s1 entryCountAt (number countSize .write (v .entries + 1)) countSize → AdvancedTo s2 seq s3 r → seq < 256 ^ numberSize
         → Served s (on (batch seq list)) 0 r s3
     batch-entered {s1} {s2} {s3} {seq} {r} y e a b =
         let st = w .state in
         let es : List Entry = st .entries ++ (entry seq all ∷ []) in
-        let ls : length (number numberSize .write seq ++ take (end - 0) d') ≡ numberSize + length (setForm (base .key) .write all) = length-append (number numberSize .write seq) (take (end - 0) d') ∙ rw (length-number numberSize seq, set-bytes) in
-        let l = laid-enter (st .entries) seq all (seen-laid w) (w .middle) set-bytes y (omega (arith, ls, fits seq)) in
+        let ls : length (number numberSize .write seq ++ take (end - 0) d') ≡ numberSize + length (setForm anyLength .write all) = length-append (number numberSize .write seq) (take (end - 0) d') ∙ rw (length-number numberSize seq, set-bytes) in
+        let l = laid-enter (st .entries) seq all (seen-laid w) (seen-middle w) set-bytes y (omega (arith, ls, fits seq)) in
         let ne : v .entries + 1 ≡ length es = sym (length-append (st .entries) (entry seq all ∷ []) ∙ omega (arith, w .entries)) in
         let z = advance-changed (more seq) a (seen-held w .last) b (ap (λ (i : ℕ). setEntryCount i (headsOf st)) ne) (laid-entries l (v .entries + 1) e) in
         rw (z .1) (change s s3 st _ (batch seq list) (seen-load w) (z .0) _ (answers seq))

@@ -12,12 +12,13 @@ use Rattle.machine.specs.Calls.{on, commit, malformed, full, done}
 use Rattle.machine.proofs.ActiveLaws.{without-sum}
 use Rattle.codec.specs.Formats.{number}
 use Rattle.codec.proofs.NumberLaws.{length-number}
-use Rattle.layout.specs.Offsets.{numberSize, countSize, idSize, entryCountAt, activeCountAt}
+use Rattle.layout.specs.Offsets.{numberSize, countSize, idSize, entryCountAt, activeCountAt, anyLength}
 use Rattle.layout.specs.Keys.{setForm}
 use Rattle.layout.specs.Records.{txnForm}
 use Rattle.layout.specs.States.{headsOf, setEntryCount, setActiveCount}
 use Rattle.layout.specs.Rooms.{Served}
-use Rattle.layout.proofs.PartLaws.{part-end}
+use Rattle.layout.proofs.FillLaws.{fills-end}
+use Rattle.layout.proofs.OpenLaws.{open-txn}
 use Rattle.layout.proofs.SizeLaws.{set-length, txn-length}
 use Rattle.layout.proofs.LoadLaws.{refuse, change, change-absent}
 use Rattle.room.specs.declared.View.{View}
@@ -27,11 +28,11 @@ use Rattle.places.specs.Finds.{Found}
 use Rattle.edits.specs.Leaving.{Emptied}
 use Rattle.edits.proofs.LaidLaws.{laid-entries, laid-active}
 use Rattle.edits.proofs.ChangeLaws.{laid-enter}
-use Rattle.edits.specs.Advance.{Advanced}
-use Rattle.answers.proofs.StateLaws.{none-left}
+use Rattle.edits.specs.Advance.{AdvancedTo}
+use Rattle.machine.proofs.ListLaws.{none-left}
 use Rattle.answers.proofs.EnterLaws.{commit-malformed, commit-absent, commit-alone, commit-full, commit-done}
 use Rattle.commits.specs.Commits.{Leaving, Entered}
-use Rattle.answers.proofs.SeenLaws.{seen-load, seen-held, seen-laid}
+use Rattle.answers.proofs.SeenLaws.{seen-load, seen-held, seen-laid, seen-middle}
 use Rattle.answers.proofs.FoundLaws.{not-found, here, found}
 use Rattle.answers.proofs.LeftLaws.{left, left-is, left-many, here-bounds, here-out}
 use Rattle.answers.proofs.AdvanceLaws.{advance-changed, empty-advanced}
@@ -46,11 +47,11 @@ commit-leaving w {id} f =
     let n = without-sum txnBytes id (w .state .active) t (found w f) (g .distinct) in
     record {
       one = t;
-      part = here w f .part;
+      fills = here w f .fills;
       after = o .after;
       within = o .within;
       inside = o .inside;
-      short = rw (set-length (base .key) (t .writes)) (omega (arith, m, n, g .ceilings .marks, g .ceilings .bytes));
+      short = rw (set-length anyLength (t .writes)) (omega (arith, m, n, g .ceilings .marks, g .ceilings .bytes));
     }
 
 others-left : {s : List ℕ} {v : View} (w : Seen s v) {id : Bytes} {p q : ℕ} → Found s (v .middle) (v .active) id (Place.Here p q) → (v .active ≡ 1 → ⊥) → 0 < length (without id (w .state .active))
@@ -61,17 +62,17 @@ module _ {s : List ℕ} {v : View} (w : Seen s v) {id : Bytes} {seq : ℕ} where
   commit-refused h = refuse s (w .state) (commit id seq) (seen-load w) malformed (commit-malformed base (w .state) id seq h)
 
   module _ (h : length id ≡ idSize) where
-    pub commit-unknown : {p r : ℕ} {s' : List ℕ} → Found s (v .middle) (v .active) id (Place.Before p) → Advanced s seq s' r → seq < 256 ^ 8 → Served s (on (commit id seq)) 1 r s'
+    pub commit-unknown : {p r : ℕ} {s' : List ℕ} → Found s (v .middle) (v .active) id (Place.Before p) → AdvancedTo s seq s' r → seq < 256 ^ numberSize → Served s (on (commit id seq)) 1 r s'
     commit-unknown {p} {r} {s'} f x b =
         let st = w .state in
         let y = advance-changed st x (seen-held w .last) b refl (seen-laid w) in
         rw (y .1) (change-absent s s' st _ (commit id seq) (seen-load w) (y .0) _ refl (commit-absent base st id seq h (not-found w f)))
 
     module _ {p q : ℕ} (f : Found s (v .middle) (v .active) id (Place.Here p q)) where
-      pub commit-only : {r : ℕ} {s' : List ℕ} → v .active ≡ 1 → r ≡ max (v .last) seq → Emptied s r s' → seq < 256 ^ 8 → Served s (on (commit id seq)) 0 r s'
+      pub commit-only : {r : ℕ} {s' : List ℕ} → v .active ≡ 1 → r ≡ max (v .last) seq → Emptied s r s' → seq < 256 ^ numberSize → Served s (on (commit id seq)) 0 r s'
       commit-only {r} {s'} k e c b =
           let st = w .state in
-          let y = empty-advanced w e c b in
+          let y = empty-advanced w (here w f .one .writes) e c b in
           rw (y .1) (change s s' st _ (commit id seq) (seen-load w) (y .0) _ (commit-alone base st id seq (here w f .one) h (found w f) (left-is w f ∙ none-left (left w f) (omega (arith, left-many w f, k)))))
 
       pub commit-many : (v .active ≡ 1 → ⊥) → base .entries ≤ v .entries → Served s (on (commit id seq)) 6 0 s
@@ -80,17 +81,17 @@ module _ {s : List ℕ} {v : View} (w : Seen s v) {id : Bytes} {seq : ℕ} where
           refuse s st (commit id seq) (seen-load w) full (commit-full base st id seq (here w f .one) h (found w f) (others-left w f k) (omega (arith, m, w .entries)))
 
       pub commit-entered : {s1 s2 s3 s4 : List ℕ} {r : ℕ} → (v .active ≡ 1 → ⊥) → v .entries < base .entries → Entered s (v .used) (v .middle) p q seq s1 → s2 ≡ paste s1 entryCountAt (number countSize .write (v .entries + 1)) countSize
-          → s3 ≡ paste s2 activeCountAt (number countSize .write (v .active - 1)) countSize → Advanced s3 seq s4 r → seq < 256 ^ 8 → Served s (on (commit id seq)) 0 r s4
+          → s3 ≡ paste s2 activeCountAt (number countSize .write (v .active - 1)) countSize → AdvancedTo s3 seq s4 r → seq < 256 ^ numberSize → Served s (on (commit id seq)) 0 r s4
       commit-entered {s1} {s2} {s3} {s4} {r} k m x e2 e3 a b =
           let st = w .state in
           let t = here w f .one in
-          let y = x .is t (here w f .part) in
-          let set : List ℕ = setForm (base .key) .write (t .writes) in
+          let y = x .is t (here w f .fills) in
+          let set : List ℕ = setForm anyLength .write (t .writes) in
           let o = here-bounds w f in
           let ls : length (number numberSize .write seq ++ set) ≡ numberSize + length set = length-append (number numberSize .write seq) set ∙ rw (length-number numberSize seq) in
-          let lt : length set + numberSize ≤ length (txnForm (base .key) .write t) = rw (set-length (base .key) (t .writes), txn-length (base .key) t) (omega (arith)) in
+          let lt : length set + numberSize ≤ length (txnForm anyLength .write t) = rw (set-length anyLength (t .writes), txn-length anyLength t (open-txn anyLength (here w f .fills) .head .id-length)) (omega (arith)) in
           let d = here-out w f (y .leaves) in
-          let d1 = laid-enter (st .entries) seq (t .writes) d (w .middle) refl (y .enters) (omega (arith, ls, lt, o .from, o .within, part-end (txnForm (base .key)) (here w f .part), d .short, seen-laid w .short)) in
+          let d1 = laid-enter (st .entries) seq (t .writes) d (seen-middle w) refl (y .enters) (omega (arith, ls, lt, o .from, o .within, fills-end (txnForm anyLength) (here w f .fills), d .short, seen-laid w .short)) in
           let es : List Entry = st .entries ++ (entry seq (t .writes) ∷ []) in
           let st' : State = withEntries es (withActive (left w f) st) in
           let ne : v .entries + 1 ≡ length es = sym (length-append (st .entries) (entry seq (t .writes) ∷ []) ∙ omega (arith, w .entries)) in

@@ -6,26 +6,22 @@ use native.Mathlib.Nat.{le-refl}
 use native.Mathlib.Omega.{arith}
 use lib.ListN.{length, take, drop, length-drop}
 use lib.Seq.{paste, length-paste, take-all, take-at, length-take-le}
-use Rattle.machine.specs.State.{Txn, base}
+use Rattle.machine.specs.State.{Txn}
 use Rattle.codec.specs.Formats.{number}
 use Rattle.moves.specs.Splices.{Spliced}
 use Rattle.moves.proofs.SpliceLaws.{drop-take}
-use Rattle.layout.specs.Offsets.{numberSize, writesAt}
+use Rattle.layout.specs.Offsets.{numberSize, writesAt, anyLength}
 use Rattle.layout.specs.Keys.{setForm}
 use Rattle.layout.specs.Records.{txnForm}
-use Rattle.layout.specs.Rows.{Part, Here, Ends}
-use Rattle.layout.proofs.PartLaws.{part-end, part-slice}
+use Rattle.layout.specs.Rows.{Fills, Ends}
+use Rattle.layout.proofs.FillLaws.{fills-end, fills-slice}
 use Rattle.layout.proofs.OpenLaws.{open-txn}
-use Rattle.places.proofs.EndLaws.{here-of}
 use Rattle.tracks.specs.Drafts.{setSize}
 use Rattle.commits.specs.Commits.{Leaving, Entered}
 
 -- where the writes stand
-writes-part : {s : List ℕ} {at end past : ℕ} (t : Txn) → Part (txnForm (base .key)) s at t end → Ends (setForm (base .key)) s (at + writesAt) past → Part (setForm (base .key)) s (at + writesAt) (t .writes) past
-writes-part {s} {at} t p x = let o = open-txn (base .key) p in subst (Part (setForm (base .key)) s (at + writesAt) (t .writes)) (sym (x .is (t .writes) (o .writes-end) (o .writes))) (o .writes)
-
-pub writes-here : {s : List ℕ} {used middle at end : ℕ} → Leaving s used middle at end → Here (setForm (base .key)) s (at + writesAt)
-writes-here l = here-of (setForm (base .key)) (open-txn (base .key) (l .part) .writes)
+writes-fills : {s : List ℕ} {at end past : ℕ} (t : Txn) → Fills (txnForm anyLength) s at t end → Ends (setForm anyLength) s (at + writesAt) past → Fills (setForm anyLength) s (at + writesAt) (t .writes) past
+writes-fills {s} {at} t p x = let o = open-txn anyLength p in subst (Fills (setForm anyLength) s (at + writesAt) (t .writes)) (sym (x .is (t .writes) (o .writes-end) (o .writes))) (o .writes)
 
 pub record Span (s : List ℕ) (used middle at end past : ℕ) : Type 0 where
   pub after : middle ≤ at
@@ -36,10 +32,10 @@ pub record Span (s : List ℕ) (used middle at end past : ℕ) : Type 0 where
   pub room : used ≤ length s
   pub short : past - (at + writesAt) ≤ setSize
 
-pub writes-span : {s : List ℕ} {used middle at end past : ℕ} → Leaving s used middle at end → Ends (setForm (base .key)) s (at + writesAt) past → Span s used middle at end past
+pub writes-span : {s : List ℕ} {used middle at end past : ℕ} → Leaving s used middle at end → Ends (setForm anyLength) s (at + writesAt) past → Span s used middle at end past
 writes-span l x =
-    let p = writes-part (l .one) (l .part) x in
-    let o = open-txn (base .key) (l .part) in
+    let p = writes-fills (l .one) (l .fills) x in
+    let o = open-txn anyLength (l .fills) in
     let e = x .is (l .one .writes) (o .writes-end) (o .writes) in
     record {
       after = l .after;
@@ -48,7 +44,7 @@ writes-span l x =
       within = l .within;
       inside = p .inside;
       room = l .inside;
-      short = omega (arith, part-end (setForm (base .key)) p, l .short);
+      short = omega (arith, fills-end (setForm anyLength) p, l .short);
     }
 
 module _ {s : List ℕ} {used middle at end past : ℕ} (w : Span s used middle at end past) (d : List ℕ) (long : length d ≡ setSize) where
@@ -77,16 +73,16 @@ front-of d a x n e l =
     let f : take (length x) x ≡ x = take-all (length x) x (omega arith) in
     ap (take n) (e ∙ ap (λ (y : List ℕ). y ++ drop (0 + length x) d) f) ∙ take-at x (drop (0 + length x) d) n l
 
-pub entered : {s s1 s2 a : List ℕ} {used middle at end seq : ℕ} (past : ℕ) (d : List ℕ) → Ends (setForm (base .key)) s (at + writesAt) past → a ≡ paste d 0 (take (past - (at + writesAt)) (drop (at + writesAt) s)) (length (take (past - (at + writesAt)) (drop (at + writesAt) s)))
+pub entered : {s s1 s2 a : List ℕ} {used middle at end seq : ℕ} (past : ℕ) (d : List ℕ) → Ends (setForm anyLength) s (at + writesAt) past → a ≡ paste d 0 (take (past - (at + writesAt)) (drop (at + writesAt) s)) (length (take (past - (at + writesAt)) (drop (at + writesAt) s)))
     → Spliced s used at (end - at) [] s1 → Spliced s1 (used - (end - at)) middle 0 (number numberSize .write seq ++ take (past - (at + writesAt) - 0) a) s2 → Entered s used middle at end seq s2
 entered {s} {s1} {s2} {a} {used} {middle} {at} {end} {seq} past d x e y z =
     record {
-      is = λ t p. record { rest = s1; leaves = y; enters = subst (λ (k : List ℕ). Spliced s1 (used - (end - at)) middle 0 (number numberSize .write seq ++ k) s2) (copied t (writes-part t p x)) z };
+      is = λ t p. record { rest = s1; leaves = y; enters = subst (λ (k : List ℕ). Spliced s1 (used - (end - at)) middle 0 (number numberSize .write seq ++ k) s2) (copied t (writes-fills t p x)) z };
     }
   where
-    copied : (t : Txn) → Part (setForm (base .key)) s (at + writesAt) (t .writes) past → take (past - (at + writesAt) - 0) a ≡ setForm (base .key) .write (t .writes)
+    copied : (t : Txn) → Fills (setForm anyLength) s (at + writesAt) (t .writes) past → take (past - (at + writesAt) - 0) a ≡ setForm anyLength .write (t .writes)
     copied t p =
         let n : past - (at + writesAt) - 0 ≡ past - (at + writesAt) = omega arith in
-        let b : take (past - (at + writesAt)) (drop (at + writesAt) s) ≡ setForm (base .key) .write (t .writes) = sym (drop-take (at + writesAt) past s) ∙ part-slice (setForm (base .key)) p in
-        let l : length (take (past - (at + writesAt)) (drop (at + writesAt) s)) ≡ past - (at + writesAt) = ap length b ∙ omega (arith, part-end (setForm (base .key)) p) in
+        let b : take (past - (at + writesAt)) (drop (at + writesAt) s) ≡ setForm anyLength .write (t .writes) = sym (drop-take (at + writesAt) past s) ∙ fills-slice (setForm anyLength) p in
+        let l : length (take (past - (at + writesAt)) (drop (at + writesAt) s)) ≡ past - (at + writesAt) = ap length b ∙ omega (arith, fills-end (setForm anyLength) p) in
         ap (λ (m : ℕ). take m a) n ∙ front-of d a (take (past - (at + writesAt)) (drop (at + writesAt) s)) (past - (at + writesAt)) e l ∙ b

@@ -4,18 +4,17 @@ use native.Mathlib.Nat.{add-zero}
 use mathlib.Core.Path.{_≡_, refl, sym, ap, _∙_}
 use mathlib.Core.List.{List, [], _++_, append-assoc, append-nil}
 use native.Mathlib.Omega.{arith}
-use lib.ListN.{length, take, drop, length-append, length-replicate, replicate, drop-of-length-le}
+use lib.ListN.{length, drop, length-append, length-replicate, replicate, drop-of-length-le}
 use lib.Seq.{paste, paste-zero, take-all, take-length}
-use Rattle.machine.specs.State.{base}
 use Rattle.machine.specs.Serve.{newTxn}
 use Rattle.codec.specs.Codec.{writeRun, writeNumber}
 use Rattle.codec.specs.Formats.{number, raw, bind, only, via, run}
 use Rattle.codec.proofs.NumberLaws.{length-number}
 use Rattle.moves.specs.Splices.{Spliced, usedAfter}
 use Rattle.moves.proofs.SpliceLaws.{spliced, splice-on, paste-on}
-use Rattle.layout.specs.Offsets.{numberSize, countSize, idSize, lastAt, partAt, entryCountAt, activeCountAt, entriesAt, keysAt, startAt, writesAt, txnSize}
+use Rattle.layout.specs.Offsets.{numberSize, countSize, idSize, lastAt, partAt, entryCountAt, activeCountAt, entriesAt, keysAt, startAt, writesAt, txnSize, anyLength}
 use Rattle.layout.specs.Keys.{setForm, rangesForm, listForm}
-use Rattle.layout.specs.Records.{headForm, countsForm, entriesForm, activeForm, partForm, txnForm, stamp}
+use Rattle.layout.specs.Records.{headForm, countsForm, entriesForm, activeForm, partForm, txnHeadForm, txnForm, stamp}
 use Rattle.layout.specs.States.{plainForm}
 use Rattle.edits.specs.Edits.{Freshened}
 
@@ -81,13 +80,14 @@ zeros-written d a b id n ed li ea eb =
     let f : length (id ++ number numberSize .write n) ≡ writesAt = length-two id (number numberSize .write n) idSize numberSize li l in
     x ∙ rw (take-all writesAt (id ++ number numberSize .write n) (omega arith), ed)
 
-zeros : (id : List ℕ) (n : ℕ) → id ++ (number numberSize .write n ++ replicate (countSize + countSize + countSize) 0) ≡ id ++ (number numberSize .write n ++ ((number countSize .write 0 ++ []) ++ ((number countSize .write 0 ++ []) ++ (number countSize .write 0 ++ []))))
+-- three empty lists
+zeros : replicate (countSize + countSize + countSize) 0 ≡ (number countSize .write 0 ++ []) ++ ((number countSize .write 0 ++ []) ++ (number countSize .write 0 ++ []))
 unfolding number writeNumber
-zeros id n = refl
+zeros = refl
 
 pub txn-put : (s s' d a b : List ℕ) (used at : ℕ) (id : List ℕ) (n : ℕ) → d ≡ replicate txnSize 0 → length id ≡ idSize → a ≡ paste d 0 id (length id) → b ≡ paste a startAt (number numberSize .write n) numberSize
-    → Spliced s used at 0 b s' → Spliced s used at 0 (txnForm (base .key) .write (newTxn id n)) s'
-unfolding txnForm via bind raw setForm rangesForm listForm run writeRun
+    → Spliced s used at 0 b s' → Spliced s used at 0 (txnForm anyLength .write (newTxn id n)) s'
+unfolding txnForm txnHeadForm via bind raw setForm rangesForm listForm run writeRun
 txn-put s s' d a b used at id n ed li ea eb w =
-    let e : b ≡ txnForm (base .key) .write (newTxn id n) = zeros-written d a b id n ed li ea eb ∙ append-assoc id (number numberSize .write n) (replicate (countSize + countSize + countSize) 0) ∙ zeros id n in
+    let e : b ≡ txnForm anyLength .write (newTxn id n) = zeros-written d a b id n ed li ea eb ∙ ap (λ (z : List ℕ). (id ++ number numberSize .write n) ++ z) zeros in
     rw (← e) w

@@ -7,6 +7,6 @@ use Rattle.codec.specs.Formats.{number}
 use Rattle.codec.specs.Stands.{Stands}
 use Rattle.layout.specs.Offsets.{numberSize, lastAt, partAt}
 
-pub record Advanced (s : List ℕ) (seq : ℕ) (s' : List ℕ) (r : ℕ) : Type 0 where
+pub record AdvancedTo (s : List ℕ) (seq : ℕ) (s' : List ℕ) (r : ℕ) : Type 0 where
   pub larger : (last : ℕ) → Stands (number numberSize) s lastAt last partAt → r ≡ max last seq
   pub bytes : s' ≡ paste s lastAt (number numberSize .write r) numberSize

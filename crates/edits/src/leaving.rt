@@ -1,18 +1,20 @@
 // Leaving the list: the one place where entries are pruned and the list is emptied.
 ghost use Prim.Native.Nat.{_≤_};
 ghost use lib.ListN.{length};
-ghost use Rattle.machine.specs.State.{base};
-ghost use Rattle.layout.specs.Offsets.{entriesAt};
+ghost use Rattle.layout.specs.Offsets.{entriesAt, anyLength};
 ghost use Rattle.layout.specs.Records.{entryForm};
 ghost use Rattle.layout.specs.Rows.{Rows};
 ghost use Rattle.edits.specs.Leaving.{Prunes, Prunable, Recycled, Emptied};
 use crate::remove;
-use crate::write_fresh;
 use codec::numbers::read_eight;
+use codec::numbers::write_eight;
 use codec::numbers::write_two;
+use layout::ACTIVE_COUNT;
 use layout::ENTRIES;
 use layout::ENTRY_COUNT;
+use layout::LAST;
 use moves::shift;
+use places::cursor::Cursor;
 use places::finds::least_start;
 use places::skips::entry_past;
 
@@ -24,24 +26,22 @@ struct Kept {
 
 // Moves the entries whose sequence is at least `least` together, behind the heads.
 fn prune_entries(room: &mut [u8], n: usize, least: u64) -> Kept
-    requires { ⌜ Rows (entryForm (base .key)) (now room) entriesAt n ⌝ }
+    requires { ⌜ Rows (entryForm anyLength) (now room) entriesAt n ⌝ }
     ensures { λ r. ⌜ Prunes (now (room .entry)) n least (now (room .exit)) r ⌝ }
 {
     let mut end = ENTRIES;
-    let mut from = ENTRIES;
     let mut count = 0;
-    let mut left = n;
-    while 0 < left {
+    let mut c = Cursor::new(ENTRIES, n);
+    while 0 < c.left {
+        let from = c.at;
         let next = entry_past(room, from);
-        left -= 1;
+        c = c.past(next);
         if read_eight(room, from) < least {
-            from = next;
             continue;
         }
         shift(room, from, end, next - from);
         end += next - from;
         count += 1;
-        from = next;
     }
     Kept { count, end }
 }
@@ -51,7 +51,9 @@ pub fn empty_recent_committed_txns(room: &mut [u8], last: u64)
     requires { ⌜ entriesAt ≤ length (now room) ⌝ }
     ensures { λ _. ⌜ Emptied (now (room .entry)) last (now (room .exit)) ⌝ }
 {
-    write_fresh(room, last);
+    write_eight(room, LAST, last);
+    write_two(room, ENTRY_COUNT, 0);
+    write_two(room, ACTIVE_COUNT, 0);
 }
 
 // Prunes the entries that no active transaction can conflict with, and answers how many are kept.

@@ -3,11 +3,10 @@ ghost use mathlib.Core.Path.{_≡_};
 ghost use Prim.Native.Nat.{_+_, _≤_};
 ghost use mathlib.Core.List.{[], _++_};
 ghost use lib.ListN.{length};
-ghost use Rattle.machine.specs.State.{base};
 ghost use Rattle.machine.specs.Serve.{newTxn};
 ghost use Rattle.codec.specs.Formats.{number};
 ghost use Rattle.moves.specs.Splices.{Spliced};
-ghost use Rattle.layout.specs.Offsets.{numberSize, idSize, entriesAt, txnSize};
+ghost use Rattle.layout.specs.Offsets.{numberSize, idSize, entriesAt, txnSize, anyLength};
 ghost use Rattle.layout.specs.Records.{txnForm};
 ghost use Rattle.edits.specs.Edits.{Freshened};
 use codec::numbers::write_eight;
@@ -49,7 +48,7 @@ pub fn write_fresh(room: &mut [u8], last: u64)
 // Puts the record of a transaction that has just begun in at a place of the first `used` bytes.
 pub fn put_txn(room: &mut [u8], used: usize, at: usize, id: &[u8], start: u64)
     requires { ⌜ (at ≤ used) × (used + txnSize ≤ length (now room)) × (length (now id) ≡ idSize) ⌝ }
-    ensures { λ _. ⌜ Spliced (now (room .entry)) used at 0 (txnForm (base .key) .write (newTxn (now (id .entry)) start)) (now (room .exit)) ⌝ }
+    ensures { λ _. ⌜ Spliced (now (room .entry)) used at 0 (txnForm anyLength .write (newTxn (now (id .entry)) start)) (now (room .exit)) ⌝ }
 {
     let mut new = [0u8; TXN];
     copy_in(&mut new, 0, id);

@@ -13,7 +13,7 @@ use Rattle.fields.specs.Fields.{fieldHead, sizeOf, field, before, fields
 use Rattle.fields.specs.Forms.{ItemAt, EndAt, CutAt, sizeAt}
 use Rattle.fields.proofs.Steps.{fields-short, fields-step}
 
-byte : (bs : List ℕ) (i j : ℕ) → j ≡ suc i → i < length bs → drop i bs ≡ getD bs i 0 ∷ drop j bs
+pub byte : (bs : List ℕ) (i j : ℕ) → j ≡ suc i → i < length bs → drop i bs ≡ getD bs i 0 ∷ drop j bs
 byte bs i j e h = rw e (drop-cons bs i 0 h)
 
 take-of-drop : (f n : ℕ) (bs : List ℕ) → f ≤ length bs → take n (drop f bs) ≡ slice f (f + n) bs

@@ -26,10 +26,11 @@ fieldHead = 3
 abbrev pub sizeOf : ℕ → ℕ → ℕ
 sizeOf h l = h * 256 + l
 
--- document 01's tag of a key, and of each kind of bound
+-- "Key list: fields of tag 4B"
 abbrev pub keyTag : ℕ
 keyTag = 0x4b
 
+-- document 01's tag of each kind of bound
 abbrev pub boundTag : Kind → ℕ
 boundTag Unbounded = 0x10
 boundTag Included = 0x11

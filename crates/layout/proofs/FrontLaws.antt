@@ -22,7 +22,7 @@ module _ (L : Ceilings) where
   front room = take (roomSize L) room
 
   -- a record stays where it is when bytes are put behind it, and when those beyond the size are cut off
-  more-behind : (a b : List ℕ) (s : State) (rest : List ℕ) → stateForm L .read a ≡ item s rest → stateForm L .read (a ++ b) ≡ item s (rest ++ b)
+  pub more-behind : (a b : List ℕ) (s : State) (rest : List ℕ) → stateForm L .read a ≡ item s rest → stateForm L .read (a ++ b) ≡ item s (rest ++ b)
   unfolding stateForm only
   more-behind a b s rest e =
       let x = stateForm L .read-is a s rest e in

@@ -9,15 +9,17 @@ use borrow.Author.Tests.{leb-true, le-leb}
 use lib.Dec.{leb}
 use lib.ListN.{length}
 use Rattle.keys.specs.Order.{order, isLess}
+use Rattle.keys.proofs.OrderLaws.{less-is}
 use Rattle.machine.specs.Lists.{sum, All}
 use Rattle.machine.specs.State.{Txn, Entry, State, Ceilings, base, fits, Above, Ascends, ids, TxnOk, EntryOk, MachineState, marks, txnMarks, entryMarks}
 use Rattle.machine.proofs.Kept.{fits-means}
 use Rattle.codec.specs.Codec.{RunOk}
 use Rattle.codec.specs.Formats.{number, bind, only, via, run}
+use Rattle.layout.specs.Offsets.{numberSize, countSize, lengthSize}
 use Rattle.layout.specs.Keys.{anyOrder}
 use Rattle.layout.specs.Records.{entryForm, txnForm, entriesForm, activeForm, belowId, headForm, countsForm, partForm}
 use Rattle.layout.specs.States.{plainForm, highest, seqOf, startOf, inTime, idle, sound, stateForm}
-use Rattle.layout.proofs.MachineLaws.{less-lt, entry-ok, ok-entry, txn-ok, ok-txn}
+use Rattle.layout.proofs.MachineLaws.{entry-ok, ok-entry, txn-ok, ok-txn}
 
 -- the greatest of a list is at most n exactly when each is
 highest-below : {A : Type 0} (f : A → ℕ) (n : ℕ) (xs : List A) → All (λ x. f x ≤ n) xs → highest f xs ≤ n
@@ -31,7 +33,7 @@ below-highest f n [] h = tt
 below-highest f n (x ∷ xs) h = (omega arith, below-highest f n xs (omega arith))
 
 module _ (L : Ceilings) (n : ℕ) where
-  entries-run : (p : Option Entry) (es : List Entry) → L .key < 65536 → n < 256 ^ 8 → sum entryMarks es < 65536 → All (EntryOk L n) es → RunOk (entryForm (L .key)) anyOrder p es
+  entries-run : (p : Option Entry) (es : List Entry) → L .key < 256 ^ lengthSize → n < 256 ^ numberSize → sum entryMarks es < 256 ^ countSize → All (EntryOk L n) es → RunOk (entryForm (L .key)) anyOrder p es
   unfolding sum
   entries-run p [] h l k a = tt
   entries-run none (e ∷ es) h l k a = (refl, (entry-ok L n e h l (omega arith) (a .0), entries-run (some e) es h l (omega arith) (a .1)))
@@ -41,12 +43,12 @@ module _ (L : Ceilings) (n : ℕ) where
   run-entries p [] b o = tt
   run-entries p (e ∷ es) b o = (ok-entry L n e (b .0) (o .1 .0), run-entries (some e) es (b .1) (o .1 .1))
 
-  after-run : (p : Txn) (ts : List Txn) → L .key < 65536 → n < 256 ^ 8 → sum txnMarks ts < 65536 → All (TxnOk L n) ts → Above (p .id) (ids ts) → RunOk (txnForm (L .key)) belowId (some p) ts
+  after-run : (p : Txn) (ts : List Txn) → L .key < 256 ^ lengthSize → n < 256 ^ numberSize → sum txnMarks ts < 256 ^ countSize → All (TxnOk L n) ts → Above (p .id) (ids ts) → RunOk (txnForm (L .key)) belowId (some p) ts
   unfolding sum
   after-run p [] h l k a b = tt
   after-run p (t ∷ ts) h l k a b = (ap isLess (b .0), (txn-ok L n t h l (omega arith) (a .0), after-run t ts h l (omega arith) (a .1) (b .1)))
 
-  active-run : (ts : List Txn) → L .key < 65536 → n < 256 ^ 8 → sum txnMarks ts < 65536 → All (TxnOk L n) ts → Ascends (ids ts) → RunOk (txnForm (L .key)) belowId none ts
+  active-run : (ts : List Txn) → L .key < 256 ^ lengthSize → n < 256 ^ numberSize → sum txnMarks ts < 256 ^ countSize → All (TxnOk L n) ts → Ascends (ids ts) → RunOk (txnForm (L .key)) belowId none ts
   unfolding sum
   active-run [] h l k a b = tt
   active-run (t ∷ ts) h l k a b = (refl, (txn-ok L n t h l (omega arith) (a .0), after-run t ts h l (omega arith) (a .1) b))
@@ -57,7 +59,7 @@ module _ (L : Ceilings) (n : ℕ) where
 
   run-after : (p : Txn) (ts : List Txn) → RunOk (txnForm (L .key)) belowId (some p) ts → Above (p .id) (ids ts)
   run-after p [] o = tt
-  run-after p (t ∷ ts) o = (less-lt (order (p .id) (t .id)) (o .0), run-after t ts (o .1 .1))
+  run-after p (t ∷ ts) o = (less-is (order (p .id) (t .id)) (o .0), run-after t ts (o .1 .1))
 
   run-distinct : (ts : List Txn) → RunOk (txnForm (L .key)) belowId none ts → Ascends (ids ts)
   run-distinct [] o = tt
@@ -75,21 +77,21 @@ true-idle (t ∷ ts) es h e = absurd (omega (arith, ap length e))
 
 -- counts and the key limit fit two bytes
 pub record Small (L : Ceilings) : Type 0 where
-  pub active : L .active < 65536
-  pub entries : L .entries < 65536
-  pub marks : L .marks < 65536
-  pub key : L .key < 65536
+  pub active : L .active < 256 ^ countSize
+  pub entries : L .entries < 256 ^ countSize
+  pub marks : L .marks < 256 ^ countSize
+  pub key : L .key < 256 ^ lengthSize
 
 pub base-small : Small base
 base-small = record { active = omega arith; entries = omega arith; marks = omega arith; key = omega arith }
 
 -- every machine state has a record, if its last number fits
-pub machine-holds : (L : Ceilings) (s : State) → Small L → MachineState L s → s .last < 256 ^ 8 → stateForm L .Ok s
+pub machine-holds : (L : Ceilings) (s : State) → Small L → MachineState L s → s .last < 256 ^ numberSize → stateForm L .Ok s
 unfolding stateForm only plainForm partForm via bind headForm countsForm number entriesForm activeForm run sound inTime
 machine-holds L s w o l =
     let f = o .ceilings in
-    let me : sum entryMarks (s .entries) < 65536 = omega (arith, f .marks, w .marks) in
-    let mt : sum txnMarks (s .active) < 65536 = omega (arith, f .marks, w .marks) in
+    let me : sum entryMarks (s .entries) < 256 ^ countSize = omega (arith, f .marks, w .marks) in
+    let mt : sum txnMarks (s .active) < 256 ^ countSize = omega (arith, f .marks, w .marks) in
     let he : highest seqOf (s .entries) ≤ s .last = highest-below seqOf (s .last) (s .entries) (mapped-entries (s .entries) (o .entries)) in
     let ht : highest startOf (s .active) ≤ s .last = highest-below startOf (s .last) (s .active) (mapped-active (s .active) (o .txns)) in (
       (
@@ -108,11 +110,11 @@ machine-holds L s w o l =
     mapped-active (t ∷ ts) a = (a .0 .started, mapped-active ts (a .1))
 
 -- what has a record is a machine state
-pub holds-machine : (L : Ceilings) (s : State) → stateForm L .Ok s → MachineState L s × (s .last < 256 ^ 8)
+pub holds-machine : (L : Ceilings) (s : State) → stateForm L .Ok s → MachineState L s × (s .last < 256 ^ numberSize)
 unfolding stateForm only plainForm partForm via bind headForm countsForm number entriesForm activeForm run sound inTime
 holds-machine L s o =
-    let b = and-eq-true-iff (fits L s) ((leb (highest seqOf (s .entries)) (s .last) && leb (highest startOf (s .active)) (s .last)) && idle (s .active) (s .entries)) .0 (o .1) in
-    let c = and-eq-true-iff (leb (highest seqOf (s .entries)) (s .last) && leb (highest startOf (s .active)) (s .last)) (idle (s .active) (s .entries)) .0 (b .1) in
+    let b = and-eq-true-iff (fits L s) (inTime s && idle (s .active) (s .entries)) .0 (o .1) in
+    let c = and-eq-true-iff (inTime s) (idle (s .active) (s .entries)) .0 (b .1) in
     let d = and-eq-true-iff (leb (highest seqOf (s .entries)) (s .last)) (leb (highest startOf (s .active)) (s .last)) .0 (c .0) in
     let he = below-highest seqOf (s .last) (s .entries) (leb-true _ _ (d .0)) in
     let ht = below-highest startOf (s .last) (s .active) (leb-true _ _ (d .1)) in (

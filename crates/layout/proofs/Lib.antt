@@ -1,9 +1,10 @@
-pub mod PartLaws
+pub mod FillLaws
 pub mod RowLaws
 pub mod OpenLaws
 pub mod SizeLaws
 pub mod MachineLaws
 pub mod HoldLaws
+pub mod WideLaws
 pub mod LoadLaws
 pub mod FrontLaws
 pub mod DemandOne

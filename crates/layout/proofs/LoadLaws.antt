@@ -14,6 +14,7 @@ use Rattle.machine.specs.Serve.{answer, serve}
 use Rattle.machine.proofs.Kept.{RoomOk, fresh-ok, serve-keeps}
 use Rattle.codec.specs.Codec.{Item, item, cut}
 use Rattle.codec.specs.Formats.{only}
+use Rattle.layout.specs.Offsets.{numberSize}
 use Rattle.layout.specs.States.{plainForm, stateForm, roomSize}
 use Rattle.layout.specs.Rooms.{inRoom, load, ServedBy, Served}
 use Rattle.layout.proofs.HoldLaws.{Small, base-small, machine-holds, holds-machine}
@@ -22,12 +23,9 @@ use Rattle.layout.proofs.HoldLaws.{Small, base-small, machine-holds, ho
 -- those at the ceilings of the code.
 
 -- the bytes begin with the record of a state
-pub record WritesBy (L : Ceilings) (s : List ℕ) (st : State) : Type 0 where
+pub record RecordedBy (L : Ceilings) (s : List ℕ) (st : State) : Type 0 where
   pub rest : List ℕ
   pub is : s ≡ plainForm (L .key) .write st ++ rest
-
-abbrev pub Writes : List ℕ → State → Type 0
-Writes = WritesBy base
 
 module _ (L : Ceilings) (s : List ℕ) (h : roomSize L ≤ length s) where
   enough : ltb (length s) (roomSize L) ≡ false
@@ -41,9 +39,9 @@ module _ (L : Ceilings) (s : List ℕ) (h : roomSize L ≤ length s) where
   unfolding load
   load-cut e = rw (enough, e)
 
-  pub load-writes : (st : State) → Small L → WritesBy L s st → MachineState L st → st .last < 256 ^ 8 → load L s ≡ holding st
+  pub load-recorded : (st : State) → Small L → RecordedBy L s st → MachineState L st → st .last < 256 ^ numberSize → load L s ≡ holding st
   unfolding stateForm only
-  load-writes st small w o l =
+  load-recorded st small w o l =
       load-read st (w .rest) (ap (stateForm L .read) (w .is) ∙ stateForm L .write-is st (w .rest) (machine-holds L st small o l))
 
 pub load-short : (L : Ceilings) (s : List ℕ) → length s < roomSize L → load L s ≡ short
@@ -53,9 +51,9 @@ load-short L s h = rw (lt-ltb (length s) (roomSize L) h)
 -- what a room holds is a machine state, and its record is the first of the room's bytes
 pub record HeldBy (L : Ceilings) (s : List ℕ) (st : State) : Type 0 where
   pub kept : MachineState L st
-  pub last : st .last < 256 ^ 8
+  pub last : st .last < 256 ^ numberSize
   pub size : roomSize L ≤ length s
-  pub writes : WritesBy L s st
+  pub recorded : RecordedBy L s st
 
 abbrev pub Held : List ℕ → State → Type 0
 Held = HeldBy base
@@ -74,7 +72,7 @@ held L s st e = go (ltb (length s) (roomSize L)) refl (stateForm L .read s) refl
         let g : u ≡ st = cc in
         let x = stateForm L .read-is s u r q in
         let m = holds-machine L u (x .1) in
-        rw (← g) (record { kept = m .0; last = m .1; size = inside false p refl; writes = record { rest = r; is = x .0 } })
+        rw (← g) (record { kept = m .0; last = m .1; size = inside false p refl; recorded = record { rest = r; is = x .0 } })
 
 -- ---- a call leaves the room as it is
 
@@ -107,8 +105,8 @@ module _ {L : Ceilings} (s : List ℕ) (st : State) (c : Op) (h : load L s ≡ h
 
 -- the bytes after a change: the record of a state at their front, the same bytes past the published size
 pub record ChangedBy (L : Ceilings) (s s' : List ℕ) (st : State) : Type 0 where
-  pub writes : WritesBy L s' st
-  pub last : st .last < 256 ^ 8
+  pub recorded : RecordedBy L s' st
+  pub last : st .last < 256 ^ numberSize
   pub beyond : drop (roomSize L) s' ≡ drop (roomSize L) s
   pub size : length s' ≡ length s
 
@@ -120,7 +118,7 @@ module _ (L : Ceilings) (small : Small L) (s s' : List ℕ) (st st' : State) (c 
   after e =
       let k = held L s st h in
       let m : MachineState L st' = subst (RoomOk L) e (serve-keeps L (holding st) (on c) (k .kept)) in
-      load-writes L s' (omega (arith, k .size, w .size)) st' small (w .writes) m (w .last)
+      load-recorded L s' (omega (arith, k .size, w .size)) st' small (w .recorded) m (w .last)
 
   pub change-by : (v : ℕ) → answer L st c ≡ done v st' → ServedBy L s (on c) 0 v s'
   unfolding serve
@@ -150,7 +148,7 @@ not-short L (holding s) n h = refl
 pub make-fresh : (L : Ceilings) → Small L → (s s' : List ℕ) (n : ℕ) → roomSize L ≤ length s → ChangedBy L s s' (freshState n) → ServedBy L s (fresh n) 0 n s'
 make-fresh L small s s' n h w =
     record {
-      answers = not-short L (load L s) n long ∙ ap (replied 0 n) (sym (load-writes L s' (omega (arith, h, w .size)) (freshState n) small (w .writes) (fresh-ok L n) (w .last)));
+      answers = not-short L (load L s) n long ∙ ap (replied 0 n) (sym (load-recorded L s' (omega (arith, h, w .size)) (freshState n) small (w .recorded) (fresh-ok L n) (w .last)));
       kept = λ k. absurd (omega (arith, k));
       absent = λ k d. absurd (omega (arith, k));
       beyond = w .beyond;

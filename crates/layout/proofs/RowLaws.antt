@@ -1,18 +1,19 @@
 -- Rows of records: their bytes, their one reading, and how they are cut and joined.
 use Prim.Native.Nat.{ℕ, _+_, _-_, _≤_}
 use mathlib.Core.Path.{_≡_, refl, sym, ap, ap₂, _∙_}
-use mathlib.Core.Bool.{Bool}
+use mathlib.Core.Bool.{Bool, true}
 use mathlib.Core.List.{List, [], _∷_, _++_, append-assoc}
 use mathlib.Core.Option.{Option, none, some}
 use native.Mathlib.Omega.{arith}
 use native.Mathlib.Nat.{add-zero}
 use lib.ListN.{length, drop, length-append, length-drop}
 use lib.Seq.{slice, take-append-seam, drop-drop, drop-at}
-use Rattle.codec.specs.Codec.{Codec, writeRun, RunOk}
+use Rattle.codec.specs.Codec.{Codec, writeRun, RunOk, fine}
 use Rattle.codec.specs.Formats.{run}
 use Rattle.moves.proofs.SpliceLaws.{drop-take}
-use Rattle.layout.specs.Rows.{Part, Row}
-use Rattle.layout.proofs.PartLaws.{part-bytes, part-of, part-end, part-one}
+use Rattle.layout.specs.Keys.{anyOrder}
+use Rattle.layout.specs.Rows.{Fills, Row}
+use Rattle.layout.proofs.FillLaws.{fills-bytes, fills-of, fills-ok, fills-end, fills-one}
 
 module _ {A : Type 0} (C : Codec A) where
   pub row-inside : (s : List ℕ) (at : ℕ) (xs : List A) (e : ℕ) → Row C s at xs e → (at ≤ e) × (e ≤ length s)
@@ -22,7 +23,7 @@ module _ {A : Type 0} (C : Codec A) where
   pub row-bytes : (s : List ℕ) (at : ℕ) (xs : List A) (e : ℕ) → Row C s at xs e → drop at s ≡ writeRun C xs ++ drop e s
   unfolding writeRun
   row-bytes s at [] e r = ap (λ (n : ℕ). drop n s) (r .0)
-  row-bytes s at (x ∷ xs) e r = part-bytes C (r .first) ∙ rw (row-bytes s (r .end) xs e (r .rest), append-assoc)
+  row-bytes s at (x ∷ xs) e r = fills-bytes C (r .first) ∙ rw (row-bytes s (r .end) xs e (r .rest), append-assoc)
 
   pub row-end : (s : List ℕ) (at : ℕ) (xs : List A) (e : ℕ) → Row C s at xs e → e ≡ at + length (writeRun C xs)
   row-end s at xs e r =
@@ -41,7 +42,7 @@ module _ {A : Type 0} (C : Codec A) where
   row-one s at [] (y ∷ ys) e f r q h = absurd (omega (arith, h))
   row-one s at (x ∷ xs) [] e f r q h = absurd (omega (arith, h))
   row-one s at (x ∷ xs) (y ∷ ys) e f r q h =
-      let p = part-one C (r .first) (q .first) in
+      let p = fills-one C (r .first) (q .first) in
       let t : Row C s (r .end) ys f = rw (p .1) (q .rest) in
       let i = row-one s (r .end) xs ys e f (r .rest) t (omega (arith, h)) in
       (ap₂ (λ (a : A) (l : List A). a ∷ l) (p .0) (i .0), i .1)
@@ -53,7 +54,7 @@ module _ {A : Type 0} (C : Codec A) where
   row-of before p s at [] q o h b = (sym (add-zero at), rw (add-zero at) h)
   row-of before p s at (x ∷ xs) q o h b =
       let b' : drop at s ≡ C .write x ++ (writeRun C xs ++ q) = b ∙ append-assoc (C .write x) (writeRun C xs) q in
-      let one = part-of C s at x (writeRun C xs ++ q) (o .1 .0) h b' in
+      let one = fills-of C s at x (writeRun C xs ++ q) (o .1 .0) h b' in
       let m : ℕ = at + length (C .write x) in
       let t : drop m s ≡ writeRun C xs ++ q = rw (← drop-drop (length (C .write x)) at s, b') (drop-at (C .write x) (writeRun C xs ++ q) (length (C .write x)) refl) in
       let l : m + length (writeRun C xs) ≡ at + length (C .write x ++ writeRun C xs) = rw (length-append (C .write x) (writeRun C xs)) (omega arith) in
@@ -63,12 +64,12 @@ module _ {A : Type 0} (C : Codec A) where
       moved m e f q' r = rw (← q') r
 
   -- a run that stands at a place is a row there
-  pub run-row : (before : A → A → Bool) (n : ℕ) {s : List ℕ} {at e : ℕ} {xs : List A} → Part (run C before n) s at xs e → Row C s at xs e × (length xs ≡ n)
+  pub run-row : (before : A → A → Bool) (n : ℕ) {s : List ℕ} {at e : ℕ} {xs : List A} → Fills (run C before n) s at xs e → Row C s at xs e × (length xs ≡ n)
   unfolding run
   run-row before n {s} {at} {e} {xs} p =
       let x = run C before n .read-is (drop at s) xs (drop e s) (p .stands .reads) in
       let r = row-of before none s at xs (drop e s) (x .1 .0) (omega (arith, p .from, p .inside)) (x .0) in
-      let l : at + length (writeRun C xs) ≡ e = sym (part-end (run C before n) p) in
+      let l : at + length (writeRun C xs) ≡ e = sym (fills-end (run C before n) p) in
       (rw (← l) r, x .1 .1)
 
   -- a row is cut where one of its records begins
@@ -91,3 +92,19 @@ pub write-append : {A : Type 0} (C : Codec A) (xs ys : List A) → writeRun C (x
 unfolding writeRun
 write-append C [] ys = refl
 write-append C (x ∷ xs) ys = rw (write-append C xs ys) (sym (append-assoc (C .write x) (writeRun C xs) (writeRun C ys)))
+
+-- ---- records that may stand in any order
+
+module _ {A : Type 0} (C : Codec A) where
+  pub any-fine : (p : Option A) (a : A) → fine C anyOrder p a ≡ true
+  any-fine none a = refl
+  any-fine (some b) a = refl
+
+  -- what stands in a row can be written
+  pub row-ok : (p : Option A) (s : List ℕ) (at : ℕ) (xs : List A) (e : ℕ) → Row C s at xs e → RunOk C anyOrder p xs
+  row-ok p s at [] e r = tt
+  row-ok p s at (x ∷ xs) e r = (any-fine p x, (fills-ok C (r .first), row-ok (some x) s (r .end) xs e (r .rest)))
+
+  pub ok-append : (p : Option A) (xs ys : List A) → RunOk C anyOrder p xs → ((q : Option A) → RunOk C anyOrder q ys) → RunOk C anyOrder p (xs ++ ys)
+  ok-append p [] ys o h = h p
+  ok-append p (x ∷ xs) ys o h = (o .0, (o .1 .0, ok-append (some x) xs ys (o .1 .1) h))

@@ -13,14 +13,14 @@ use Rattle.machine.specs.State.{Bytes, Txn, Entry, State, Ceilings, Fits, TxnOk
 use Rattle.codec.specs.Codec.{writeRun}
 use Rattle.codec.specs.Formats.{number, raw, bind, only, via, run}
 use Rattle.codec.proofs.NumberLaws.{length-number}
-use Rattle.layout.specs.Offsets.{numberSize, countSize, lengthSize, idSize, partAt, entriesAt, boundKeyAt, entrySize, txnSize, markSize}
+use Rattle.layout.specs.Offsets.{numberSize, countSize, lengthSize, tagSize, idSize, partAt, entriesAt, writesAt, boundKeyAt, entrySize, txnSize, markSize}
 use Rattle.layout.specs.Keys.{keyForm, listForm, setForm, boundForm, pairForm, rangeForm, rangesForm}
-use Rattle.layout.specs.Records.{entryForm, txnForm, entriesForm, activeForm, headForm, countsForm, countsOf, partForm}
+use Rattle.layout.specs.Records.{entryForm, TxnHead, txnHeadForm, headOf, txnForm, entriesForm, activeForm, headForm, countsForm, countsOf, partForm}
 use Rattle.layout.specs.States.{plainForm, contentOf, Heads, headsOf, writeHeads, roomSize}
 
 pub key-length : (m : ℕ) (k : Bytes) → length (keyForm m .write k) ≡ lengthSize + length k
 unfolding keyForm via bind only raw
-key-length m k = length-append (number 2 .write (length k)) k ∙ rw (length-number 2 (length k))
+key-length m k = length-append (number lengthSize .write (length k)) k ∙ rw (length-number lengthSize (length k))
 
 pub keys-length : (m : ℕ) (ks : List Bytes) → length (writeRun (keyForm m) ks) ≡ lengthSize * length ks + setBytes ks
 unfolding writeRun sum
@@ -29,11 +29,11 @@ keys-length m (k ∷ ks) = length-append (keyForm m .write k) (writeRun (keyForm
 
 pub set-length : (m : ℕ) (ks : List Bytes) → length (setForm m .write ks) ≡ countSize + lengthSize * length ks + setBytes ks
 unfolding setForm listForm via bind run
-set-length m ks = length-append (number 2 .write (length ks)) (writeRun (keyForm m) ks) ∙ rw (length-number 2 (length ks), keys-length m ks) (omega arith)
+set-length m ks = length-append (number countSize .write (length ks)) (writeRun (keyForm m) ks) ∙ rw (length-number countSize (length ks), keys-length m ks) (omega arith)
 
 bound-length : (m : ℕ) (b : Bound) → length (boundForm m .write b) ≡ boundKeyAt + length (keyOf b)
 unfolding boundForm via bind only
-bound-length m b = length-append (number 1 .write (boundTag (kindOf b))) (keyForm _ .write (keyOf b)) ∙ rw (length-number 1 (boundTag (kindOf b)), key-length _ (keyOf b)) (omega arith)
+bound-length m b = length-append (number tagSize .write (boundTag (kindOf b))) (keyForm _ .write (keyOf b)) ∙ rw (length-number tagSize (boundTag (kindOf b)), key-length _ (keyOf b)) (omega arith)
 
 pub range-length : (m : ℕ) (r : Range) → length (rangeForm m .write r) ≡ markSize + rangeBytes r
 unfolding rangeForm pairForm only via bind
@@ -46,17 +46,26 @@ ranges-run m (r ∷ rs) = length-append (rangeForm m .write r) (writeRun (rangeF
 
 pub ranges-length : (m : ℕ) (rs : List Range) → length (rangesForm m .write rs) ≡ countSize + markSize * length rs + sum rangeBytes rs
 unfolding rangesForm listForm via bind run
-ranges-length m rs = length-append (number 2 .write (length rs)) (writeRun (rangeForm m) rs) ∙ rw (length-number 2 (length rs), ranges-run m rs) (omega arith)
+ranges-length m rs = length-append (number countSize .write (length rs)) (writeRun (rangeForm m) rs) ∙ rw (length-number countSize (length rs), ranges-run m rs) (omega arith)
 
 pub entry-length : (m : ℕ) (e : Entry) → length (entryForm m .write e) ≡ entrySize + lengthSize * entryMarks e + entryBytes e
 unfolding entryForm via bind
-entry-length m e = length-append (number 8 .write (e .seq)) (setForm m .write (e .keys)) ∙ rw (length-number 8 (e .seq), set-length m (e .keys)) (omega arith)
+entry-length m e = length-append (number numberSize .write (e .seq)) (setForm m .write (e .keys)) ∙ rw (length-number numberSize (e .seq), set-length m (e .keys)) (omega arith)
 
-pub txn-length : (m : ℕ) (t : Txn) → length (txnForm m .write t) ≡ length (t .id) + (numberSize + countSize + countSize + countSize + lengthSize * (length (t .writes) + length (t .reads)) + markSize * length (t .ranges) + txnBytes t)
-unfolding txnForm via bind raw
-txn-length m t =
-    simp (length-append)
-    (rw (length-number 8 (t .start), set-length m (t .writes), set-length m (t .reads), ranges-length m (t .ranges)) (omega arith))
+pub txn-head-length : (h : TxnHead) → length (h .id) ≡ idSize → length (txnHeadForm .write h) ≡ writesAt
+unfolding txnHeadForm via bind raw
+txn-head-length h e = length-append (h .id) (number numberSize .write (h .start)) ∙ rw (e, length-number numberSize (h .start))
+
+-- the head first, then the sets and the ranges
+pub txn-bytes : (m : ℕ) (t : Txn) → txnForm m .write t ≡ txnHeadForm .write (headOf t) ++ (setForm m .write (t .writes) ++ (setForm m .write (t .reads) ++ rangesForm m .write (t .ranges)))
+unfolding txnForm via bind
+txn-bytes m t = refl
+
+pub txn-length : (m : ℕ) (t : Txn) → length (t .id) ≡ idSize → length (txnForm m .write t) ≡ txnSize + lengthSize * (length (t .writes) + length (t .reads)) + markSize * length (t .ranges) + txnBytes t
+txn-length m t h =
+    rw (txn-bytes m t)
+    (simp (length-append)
+    (rw (txn-head-length (headOf t) h, set-length m (t .writes), set-length m (t .reads), ranges-length m (t .ranges)) (omega arith)))
 
 pub head-length : (l : ℕ) → length (headForm .write l) ≡ partAt
 unfolding headForm via bind only
@@ -74,7 +83,7 @@ entries-length m (e ∷ es) = rw (length-append (entryForm m .write e) (writeRun
 active-length : (m : ℕ) (ts : List Txn) → All (λ t. length (t .id) ≡ idSize) ts → length (writeRun (txnForm m) ts) ≤ txnSize * length ts + markSize * sum txnMarks ts + sum txnBytes ts
 unfolding writeRun sum
 active-length m [] a = omega arith
-active-length m (t ∷ ts) a = rw (length-append (txnForm m .write t) (writeRun (txnForm m) ts), txn-length m t) (omega (arith, a .0, active-length m ts (a .1)))
+active-length m (t ∷ ts) a = rw (length-append (txnForm m .write t) (writeRun (txnForm m) ts), txn-length m t (a .0)) (omega (arith, active-length m ts (a .1)))
 
 -- the heads first, then the entries, then the active ones
 pub state-bytes : (m : ℕ) (s : State) → plainForm m .write s ≡ writeHeads (headsOf s) ++ (writeRun (entryForm m) (s .entries) ++ writeRun (txnForm m) (s .active))

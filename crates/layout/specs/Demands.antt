@@ -8,12 +8,13 @@ use lib.ListN.{length, drop}
 use Rattle.machine.specs.State.{State, Ceilings, freshState, MachineState}
 use Rattle.machine.specs.Calls.{Op, Call, fresh, on, isCommitOrDrop}
 use Rattle.machine.specs.Words.{First, Status, DoneValue, absentValue, absentState}
+use Rattle.layout.specs.Offsets.{numberSize}
 use Rattle.layout.specs.States.{plainForm, roomSize}
 
 -- the room begins with the record of this machine state, whose last number is a 64-bit one
 pub record RecordOf (L : Ceilings) (room : List ℕ) (s : State) : Type 0 where
   pub machine : MachineState L s
-  pub last : s .last < 256 ^ 8
+  pub last : s .last < 256 ^ numberSize
   pub rest : List ℕ
   pub is : room ≡ plainForm (L .key) .write s ++ rest
 

@@ -1,5 +1,6 @@
--- Where the parts of a room and of its records stand, and what they take: the names that the code has them under in src/lib.rt.
-use Prim.Native.Nat.{ℕ, _+_}
+-- Where the parts of a room and of its records stand, and what they take: the names that the code has them under in src/lib.rt, but for
+-- `anyLength`, which no code looks at.
+use Prim.Native.Nat.{ℕ, _+_, _-_, _^_}
 pub use Rattle.machine.specs.State.{idSize}
 
 -- ---- what numbers take: a stamp, a sequence or a start; the count of a list; a key's length; a bound's tag; an id
@@ -15,6 +16,11 @@ lengthSize = 2
 
 abbrev pub tagSize : ℕ
 tagSize = 1
+
+-- the longest key that a length can tell of: a walk over a room that was validated tests no key, and reads it under this limit, whatever the
+-- ceilings are
+abbrev pub anyLength : ℕ
+anyLength = 256 ^ lengthSize - 1
 
 -- ---- where the parts of a room stand: the last number behind the stamp; then its part, the counts first
 

@@ -17,15 +17,38 @@ use Rattle.layout.specs.Keys.{setForm, rangesForm, below, anyOrder}
 unfoldable pub entryForm : ℕ → Codec Entry
 entryForm m = via (bind (number numberSize) (λ n. setForm m)) (λ p. record { seq = p .0; keys = p .1 }) (λ e. (e .seq, e .keys)) (λ b. refl) (λ a o. refl)
 
--- "by 16-byte id, each with a start, a write set, a read set and a list of ranges"
-abbrev pub TxnRaw : ℕ → Codec (Bytes × (ℕ × (List Bytes × (List Bytes × List Range))))
-TxnRaw m = bind (raw idSize) (λ i. bind (number numberSize) (λ n. bind (setForm m) (λ w. bind (setForm m) (λ r. rangesForm m))))
+-- what a transaction's record begins with: "by 16-byte id, each with a start"
+pub record TxnHead : Type 0 where
+  pub id : Bytes
+  pub start : ℕ
 
-abbrev pub toTxn : Bytes × (ℕ × (List Bytes × (List Bytes × List Range))) → Txn
-toTxn p = record { id = p .0; start = p .1 .0; writes = p .1 .1 .0; reads = p .1 .1 .1 .0; ranges = p .1 .1 .1 .1 }
+abbrev pub TxnHeadRaw : Codec (Bytes × ℕ)
+TxnHeadRaw = bind (raw idSize) (λ i. number numberSize)
 
-abbrev pub ofTxn : Txn → Bytes × (ℕ × (List Bytes × (List Bytes × List Range)))
-ofTxn t = (t .id, (t .start, (t .writes, (t .reads, t .ranges))))
+abbrev pub toTxnHead : Bytes × ℕ → TxnHead
+toTxnHead p = record { id = p .0; start = p .1 }
+
+abbrev pub ofTxnHead : TxnHead → Bytes × ℕ
+ofTxnHead h = (h .id, h .start)
+
+unfoldable pub txnHeadForm : Codec TxnHead
+txnHeadForm = via TxnHeadRaw toTxnHead ofTxnHead (λ b. refl) (λ a o. refl)
+
+abbrev pub headOf : Txn → TxnHead
+headOf t = record { id = t .id; start = t .start }
+
+-- "a write set, a read set and a list of ranges"
+abbrev pub SetsRaw : ℕ → Codec (List Bytes × (List Bytes × List Range))
+SetsRaw m = bind (setForm m) (λ w. bind (setForm m) (λ r. rangesForm m))
+
+abbrev pub TxnRaw : ℕ → Codec (TxnHead × (List Bytes × (List Bytes × List Range)))
+TxnRaw m = bind txnHeadForm (λ h. SetsRaw m)
+
+abbrev pub toTxn : TxnHead × (List Bytes × (List Bytes × List Range)) → Txn
+toTxn p = record { id = p .0 .id; start = p .0 .start; writes = p .1 .0; reads = p .1 .1 .0; ranges = p .1 .1 .1 }
+
+abbrev pub ofTxn : Txn → TxnHead × (List Bytes × (List Bytes × List Range))
+ofTxn t = (headOf t, (t .writes, (t .reads, t .ranges)))
 
 unfoldable pub txnForm : ℕ → Codec Txn
 txnForm m = via (TxnRaw m) toTxn ofTxn (λ b. refl) (λ a o. refl)
@@ -63,6 +86,12 @@ pub record Counts : Type 0 where
 unfoldable pub countsForm : Codec Counts
 countsForm = via (bind (number countSize) (λ n. number countSize)) (λ p. record { entries = p .0; active = p .1 }) (λ c. (c .entries, c .active)) (λ b. refl) (λ a o. refl)
 
+abbrev pub withEntryCount : ℕ → Counts → Counts
+withEntryCount n c = record { entries = n; active = c .active }
+
+abbrev pub withActiveCount : ℕ → Counts → Counts
+withActiveCount n c = record { entries = c .entries; active = n }
+
 -- one part of a room: the counts, the entries, the active ones, one after another
 pub record Content : Type 0 where
   pub entries : List Entry
@@ -85,7 +114,7 @@ unfolding bind entriesForm activeForm run
 part-same m p o =
     let a : length (p .1 .0) ≡ p .0 .entries = o .1 .0 .1 in
     let b : length (p .1 .1) ≡ p .0 .active = o .1 .1 .1 in
-    ap₂ (λ (n k : ℕ). (record { entries = n; active = k }, p .1)) a b
+    ap₂ (λ (n k : ℕ). (withActiveCount k (withEntryCount n (p .0)), p .1)) a b
 
 unfoldable pub partForm : ℕ → Codec Content
 partForm m = via (PartRaw m) toContent ofContent (λ b. refl) (part-same m)

@@ -4,12 +4,11 @@ use mathlib.Core.Path.{refl}
 use mathlib.Core.Bool.{Bool, true, false, _&&_}
 use mathlib.Core.List.{List, [], _∷_, _++_}
 use lib.Dec.{leb}
-use lib.ListN.{length}
 use Rattle.machine.specs.State.{Txn, Entry, State, Ceilings, fits}
 use Rattle.codec.specs.Codec.{Codec}
 use Rattle.codec.specs.Formats.{bind, only, via}
 use Rattle.layout.specs.Offsets.{entriesAt, entrySize, txnSize, markSize}
-use Rattle.layout.specs.Records.{headForm, countsForm, Content, partForm}
+use Rattle.layout.specs.Records.{headForm, Counts, countsForm, withEntryCount, withActiveCount, countsOf, Content, partForm}
 
 abbrev pub StateRaw : ℕ → Codec (ℕ × Content)
 StateRaw m = bind headForm (λ l. partForm m)
@@ -26,27 +25,26 @@ ofState s = (s .last, contentOf s)
 unfoldable pub plainForm : ℕ → Codec State
 plainForm m = via (StateRaw m) toState ofState (λ b. refl) (λ a o. refl)
 
--- the numbers that stand before the entries: of the room's head the last one, and the counts of its part
+-- the numbers that stand before the entries: of the room's head the last one, and what its part begins with
 pub record Heads : Type 0 where
   pub last : ℕ
-  pub entries : ℕ
-  pub active : ℕ
+  pub counts : Counts
 
 abbrev pub headsOf : State → Heads
-headsOf s = record { last = s .last; entries = length (s .entries); active = length (s .active) }
+headsOf s = record { last = s .last; counts = countsOf (contentOf s) }
 
 abbrev pub writeHeads : Heads → List ℕ
-writeHeads h = headForm .write (h .last) ++ countsForm .write (record { entries = h .entries; active = h .active })
+writeHeads h = headForm .write (h .last) ++ countsForm .write (h .counts)
 
 -- each of them is changed by its own function, so that a number more moves these alone
 abbrev pub setLast : ℕ → Heads → Heads
-setLast n h = record { last = n; entries = h .entries; active = h .active }
+setLast n h = record { last = n; counts = h .counts }
 
 abbrev pub setEntryCount : ℕ → Heads → Heads
-setEntryCount n h = record { last = h .last; entries = n; active = h .active }
+setEntryCount n h = record { last = h .last; counts = withEntryCount n (h .counts) }
 
 abbrev pub setActiveCount : ℕ → Heads → Heads
-setActiveCount n h = record { last = h .last; entries = h .entries; active = n }
+setActiveCount n h = record { last = h .last; counts = withActiveCount n (h .counts) }
 
 -- "starts and sequences at most the last number"
 unfoldable pub highest : {A : Type 0} → (A → ℕ) → List A → ℕ

@@ -1,15 +1,15 @@
 -- What a rule for leaving the list of entries must keep to, and that pruning and emptying do: where nobody is active all leave, and
 -- what someone active sees stays.
 use Prim.Native.Nat.{ℕ, suc, _+_, _<_}
-use mathlib.Core.Path.{_≡_, refl, ap, ap₂, _∙_}
+use mathlib.Core.Path.{_≡_, refl, sym, ap, ap₂, _∙_}
 use mathlib.Core.Bool.{Bool, true, false}
 use mathlib.Core.List.{List, [], _∷_, _++_, List·Memᴰ, List·Memᴰ·not-nil}
 use native.Mathlib.Omega.{arith}
 use lib.ListN.{length, length-append}
 use borrow.Author.Tests.{le-leb}
 use Rattle.machine.specs.Lists.{keep, sum}
-use Rattle.machine.specs.State.{Txn, Entry, State, freshState, withActive, withEntries}
-use Rattle.machine.specs.Sets.{leastOf, inReach, anyActive}
+use Rattle.machine.specs.State.{Txn, Entry, State, withActive, withEntries}
+use Rattle.machine.specs.Sets.{leastOf, inReach, anyActive, pruned, emptied}
 use Rattle.machine.proofs.Minimum.{least-is}
 use Rattle.machine.proofs.ListLaws.{all-from, keep-none, keep-whole, sum-append}
 
@@ -51,6 +51,12 @@ pub entry-length : (ts : List Txn) (es : List Entry) (e : Entry) → (ts ≡ [] 
     → length (keep (anyActive ts) (es ++ (e ∷ []))) ≡ suc (length es)
 entry-length ts es e h = ap (length {A = Entry}) (anyone-keeps ts (es ++ (e ∷ [])) h) ∙ length-append es (e ∷ []) ∙ (omega arith)
 
--- a state with nobody active and no entries is a fresh one
-pub idle-fresh : (s : State) → s .active ≡ [] → s .entries ≡ [] → s ≡ freshState (s .last)
-idle-fresh s a b = ap₂ (λ (ts : List Txn) (es : List Entry). withEntries es (withActive ts s)) a b
+-- an emptied state has nobody active and no entries
+pub emptied-is : (s : State) → emptied s ≡ withEntries [] (withActive [] s)
+emptied-is s = ap (λ (es : List Entry). withEntries es (withActive [] s)) (rule-idle anyActive empty-rule [] (s .entries) refl)
+
+-- with nobody active pruning is emptying
+pub idle-pruned : (s : State) → s .active ≡ [] → pruned s ≡ emptied s
+idle-pruned s a =
+    ap₂ (λ (ts : List Txn) (es : List Entry). withEntries es (withActive ts s)) a (rule-idle inReach prune-rule (s .active) (s .entries) a)
+    ∙ sym (emptied-is s)

@@ -8,6 +8,11 @@ use native.Mathlib.Omega.{arith}
 use lib.ListN.{length}
 use Rattle.machine.specs.Lists.{any, keep, sum, All}
 
+-- a list is empty where nothing is counted
+pub none-left : {A : Type 0} (xs : List A) → length xs ≡ 0 → xs ≡ []
+none-left [] e = refl
+none-left (x ∷ xs) e = absurd (omega (arith, e))
+
 -- ---------------------------------------------------------------- or
 
 pub or-cases : (a b : Bool) → (a || b) ≡ true → (a ≡ true) ⊎ (b ≡ true)
@@ -176,6 +181,10 @@ pub sum-append : {A : Type 0} (f : A → ℕ) (xs ys : List A) → sum f (xs ++ 
 unfolding sum
 sum-append f [] ys = omega arith
 sum-append f (x ∷ xs) ys = omega (arith, sum-append f xs ys)
+
+pub sum-one : {A : Type 0} (f : A → ℕ) (xs : List A) (a : A) → sum f (xs ++ (a ∷ [])) ≡ sum f xs + f a
+unfolding sum
+sum-one f xs a = sum-append f xs (a ∷ []) ∙ omega arith
 
 -- a list's length counts each element once
 pub length-sum : {A : Type 0} (xs : List A) → length xs ≡ sum (λ x. 1) xs

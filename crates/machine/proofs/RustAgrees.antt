@@ -121,7 +121,8 @@ module _ (L : Ceilings) (s : State) (cs : List Committed) (q : Same cs (s .entri
   -- `if let Some(txn_state)`: nothing happens to an unknown id
   seeks : (i : Bytes) (c : Op) → Seeks i c → find i (s .active) ≡ none → rust c beforehand ≡ beforehand
   unfolding rust
-  seeks i _ (seeks-keys w bs) e = rw e
+  seeks i _ (seeks-keys Writes bs) e = rw e
+  seeks i _ (seeks-keys Reads bs) e = rw e
   seeks i _ (seeks-range bs) e = rw e (go (boundsOf bs))
     where
       go : (o : Option Range) → onRange o (λ r. beforehand) beforehand ≡ beforehand
@@ -140,10 +141,10 @@ module _ (L : Ceilings) (s : State) (cs : List Committed) (q : Same cs (s .entri
   adds-value i t _ _ v (adds-keys w bs ks f g) = tt
   adds-value i t _ _ v (adds-range bs r f g g') = tt
 
-  abbrev pruned : Bytes → List Entry
-  pruned i = prune (without i (s .active)) (s .entries)
+  abbrev keptAfter : Bytes → List Entry
+  keptAfter i = prune (without i (s .active)) (s .entries)
 
-  pruned-same : (i : Bytes) → Same (recycle (minStartedSeq (without i (s .active))) cs) (pruned i)
+  pruned-same : (i : Bytes) → Same (recycle (minStartedSeq (without i (s .active))) cs) (keptAfter i)
   pruned-same i = same-prune (without i (s .active)) cs (s .entries) q
 
   by-effect : (c : Op) (x : Answer) → Effect L s c x → Replies beforehand c (reply s x)
@@ -156,7 +157,7 @@ module _ (L : Ceilings) (s : State) (cs : List Committed) (q : Same cs (s .entri
       replies-absent beforehand (commit i n) s (max (s .last) n) u (rw e (agree u cs q))
   by-effect _ _ (prunes i u p e) =
       rw p
-      (replies-absent beforehand (dropTxn i) s (length (pruned i)) (dropped i s) (agree (dropped i s) _ (pruned-same i)))
+      (replies-absent beforehand (dropTxn i) s (length (keptAfter i)) (dropped i s) (agree (dropped i s) _ (pruned-same i)))
   by-effect _ _ (checks i t e) =
       replies-done beforehand (check i) s (verdict (conflict t (s .entries))) s (agree s cs q)
       (rw (e, verdict-same t cs (s .entries) q) (verdict-number (conflict t (s .entries))))
@@ -182,8 +183,8 @@ module _ (L : Ceilings) (s : State) (cs : List Committed) (q : Same cs (s .entri
       refl)
   by-effect _ _ (drops i t u p e) =
       rw p
-      (replies-done beforehand (dropTxn i) s (length (pruned i)) (dropped i s) (agree (dropped i s) _ (pruned-same i))
-      (same-length (recycle (minStartedSeq (without i (s .active))) cs) (pruned i) (pruned-same i)))
+      (replies-done beforehand (dropTxn i) s (length (keptAfter i)) (dropped i s) (agree (dropped i s) _ (pruned-same i))
+      (same-length (recycle (minStartedSeq (without i (s .active))) cs) (keptAfter i) (pruned-same i)))
 
 manager-is : (m : Manager) (s : State) → Agree m s → m ≡ manager (s .active) (m .recentCommittedTxns) (s .last)
 manager-is m s a = λ i. manager (a .active i) (m .recentCommittedTxns) (a .last i)

@@ -1,6 +1,5 @@
 -- The Rust's manager as functions on values, with none of the machine's own steps. What it shares with the machine:
--- * values: Txn, an active TransactionState beside its id (its committed_seq is None); Range; the calls with their arguments, and which of two
---   a `Which` picks;
+-- * values: Txn, an active TransactionState beside its id (its committed_seq is None); Range; the calls with their arguments;
 -- * a HashSet's one ascending list, where `extend` is insertAll; a HashMap's, where `insert` is put, `get` is find and `remove` is
 --   without; the equality of keys (laws in SetLaws.antt and ActiveLaws.antt);
 -- * tests and parts of a list, `any`, `keep` and `isNil`; whether a range holds a key; how lists and bounds are read from bytes.
@@ -14,8 +13,9 @@ use lib.Dec.{leb, ltb}
 use lib.ListN.{length}
 use Rattle.bounds.specs.Ranges.{Range, holds}
 use Rattle.fields.specs.Fields.{keyList, boundsOf}
+use Rattle.machine.specs.declared.Which.the-variants.{Writes, Reads}
 use Rattle.machine.specs.Lists.{isNil, any, keep}
-use Rattle.machine.specs.State.{Bytes, Txn, Entry, State, Ceilings, choose}
+use Rattle.machine.specs.State.{Bytes, Txn, Entry, State, Ceilings}
 use Rattle.machine.specs.Sets.{equal, insertAll, put, find, without}
 use Rattle.machine.specs.Calls.{Op, begin, trackKeys, trackRange, check, commit, batch, dropTxn, minimum, on, Room}
 use Rattle.machine.specs.Serve.{serve}
@@ -140,8 +140,8 @@ onRange (some r) f m = f r
 
 unfoldable pub rust : Op → Manager → Manager
 rust (begin i) m = manager (put (newTransaction i (m .oracle)) (m .activeTxns)) (m .recentCommittedTxns) (m .oracle)
-rust (trackKeys w i bs) m =
-    getMut (choose w trackWriteKeys trackReadKeys (listed (keyList bs))) m (find i (m .activeTxns))
+rust (trackKeys Writes i bs) m = getMut (trackWriteKeys (listed (keyList bs))) m (find i (m .activeTxns))
+rust (trackKeys Reads i bs) m = getMut (trackReadKeys (listed (keyList bs))) m (find i (m .activeTxns))
 rust (trackRange i bs) m = onRange (boundsOf bs) (λ r. getMut (trackReadRange r) m (find i (m .activeTxns))) m
 rust (check i) m = m
 rust (commit i n) m = commitTxn i n m (find i (m .activeTxns))

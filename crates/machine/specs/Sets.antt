@@ -8,7 +8,7 @@ use lib.Dec.{leb, ltb}
 use Rattle.keys.specs.Order.{order, isSame}
 use Rattle.bounds.specs.Ranges.{holds}
 use Rattle.machine.specs.Lists.{any, keep}
-use Rattle.machine.specs.State.{Bytes, Txn, Entry, State, withEntries}
+use Rattle.machine.specs.State.{Bytes, Txn, Entry, State, withActive, withEntries}
 
 abbrev pub equal : Bytes → Bytes → Bool
 equal a b = isSame (order a b)
@@ -72,6 +72,10 @@ anyActive (t ∷ ts) e = true
 
 abbrev pub emptiedIfIdle : State → State
 emptiedIfIdle s = keepOnly (anyActive (s .active)) s
+
+-- nobody is active: all leave the list
+abbrev pub emptied : State → State
+emptied s = emptiedIfIdle (withActive [] s)
 
 -- a key "in the write set, read set or a range"
 unfoldable pub tracks : Txn → Bytes → Bool

@@ -43,6 +43,8 @@ pub record State : Type 0 where
   pub entries : List Entry
 
 -- a transaction and a state are made by what changes, so that a part more moves these alone
+
+-- "all sets empty"
 abbrev pub newTxn : Bytes → ℕ → Txn
 newTxn i n = record { id = i; start = n; writes = []; reads = []; ranges = [] }
 

@@ -7,14 +7,14 @@ use native.Mathlib.Omega.{arith}
 use Rattle.layout.specs.Offsets.{countSize}
 use Rattle.codec.specs.Codec.{Codec}
 use Rattle.layout.specs.Rows.{Row, Here, Ends}
-use Rattle.layout.proofs.PartLaws.{number-read-is}
+use Rattle.layout.proofs.FillLaws.{number-read-is}
 use Rattle.layout.proofs.OpenLaws.{OpenList}
 use Rattle.places.specs.declared.cursor.Cursor.{Cursor}
 use Rattle.places.specs.Cursors.{past, CountAt, Before}
 
 module _ {A : Type 0} (C : Codec A) (s : List ℕ) (c : Cursor) where
   pub before-here : (x : A) (xs : List A) → Before C s c (x ∷ xs) → Here C s (c .at)
-  before-here x xs b = record { val = x; end = b .row .end; part = b .row .first }
+  before-here x xs b = record { val = x; end = b .row .end; fills = b .row .first }
 
   unfoldable pub before-next : (x : A) (xs : List A) (d : Cursor) (e : ℕ) → Before C s c (x ∷ xs) → Ends C s (c .at) e → d ≡ past c e → Before C s d xs
   before-next x xs d e b n q =

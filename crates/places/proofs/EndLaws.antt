@@ -7,37 +7,53 @@ use Rattle.kinds.specs.Bounds.{Bound}
 use Rattle.codec.specs.Codec.{Codec}
 use Rattle.codec.specs.Formats.{number}
 use Rattle.codec.specs.Stands.{Stands}
-use Rattle.machine.specs.State.{Bytes}
-use Rattle.layout.specs.Offsets.{lengthSize, tagSize, boundKeyAt}
+use Rattle.machine.specs.State.{Bytes, Txn}
+use Rattle.layout.specs.Offsets.{lengthSize, tagSize, writesAt, boundKeyAt, anyLength}
 use Rattle.layout.specs.Keys.{keyForm, setForm, below, boundForm, rangeForm, rangesForm, anyOrder}
-use Rattle.layout.specs.Rows.{Part, Here, Ends}
-use Rattle.layout.proofs.PartLaws.{part-one, number-read-is}
-use Rattle.layout.proofs.OpenLaws.{open-key, open-set, open-bound, open-ranges}
+use Rattle.layout.specs.Records.{txnForm}
+use Rattle.layout.specs.Rows.{Fills, Here, Ends}
+use Rattle.layout.proofs.FillLaws.{fills-one, number-read-is}
+use Rattle.layout.proofs.OpenLaws.{open-key, open-set, open-bound, open-ranges, open-txn}
 use Rattle.places.specs.declared.cursor.Cursor.{Cursor}
 use Rattle.places.specs.Cursors.{past, CountAt, Before}
 use Rattle.places.proofs.CursorLaws.{before-here, before-next, before-list}
 
-pub here-of : {A : Type 0} (C : Codec A) {s : List ℕ} {at e : ℕ} {a : A} → Part C s at a e → Here C s at
-here-of C {e = e} {a = a} p = record { val = a; end = e; part = p }
+pub here-of : {A : Type 0} (C : Codec A) {s : List ℕ} {at e : ℕ} {a : A} → Fills C s at a e → Here C s at
+here-of C {e = e} {a = a} p = record { val = a; end = e; fills = p }
 
 -- the end of one reading is the end
-pub ends-at : {A : Type 0} (C : Codec A) {s : List ℕ} {at r f : ℕ} {a : A} → Part C s at a f → r ≡ f → Ends C s at r
-ends-at C p q = record { is = λ b e p'. q ∙ part-one C p p' .1 }
+pub ends-at : {A : Type 0} (C : Codec A) {s : List ℕ} {at r f : ℕ} {a : A} → Fills C s at a f → r ≡ f → Ends C s at r
+ends-at C p q = record { is = λ b e p'. q ∙ fills-one C p p' .1 }
 
 -- a record ends where its last part ends
-pub ends-as : {A B : Type 0} (C : Codec A) (D : Codec B) {s : List ℕ} {at last r f : ℕ} {a : A} {b : B} → Part C s at a f → Part D s last b f → Ends D s last r → Ends C s at r
+pub ends-as : {A B : Type 0} (C : Codec A) (D : Codec B) {s : List ℕ} {at last r f : ℕ} {a : A} {b : B} → Fills C s at a f → Fills D s last b f → Ends D s last r → Ends C s at r
 ends-as C D {f = f} {b = b} p q x = ends-at C p (x .is b f q)
 
 -- the next part stands where the one before was found to end
-pub part-after : {A B : Type 0} (C : Codec A) (D : Codec B) {s : List ℕ} {at r f e : ℕ} {a : A} {b : B} → Ends C s at r → Part C s at a f → Part D s f b e → Part D s r b e
-part-after C D {f = f} {a = a} x p q = rw (x .is a f p) q
+pub fills-after : {A B : Type 0} (C : Codec A) (D : Codec B) {s : List ℕ} {at r f e : ℕ} {a : A} {b : B} → Ends C s at r → Fills C s at a f → Fills D s f b e → Fills D s r b e
+fills-after C D {f = f} {a = a} x p q = rw (x .is a f p) q
+
+-- the lists of a transaction stand one behind the other
+pub writes-here : {s : List ℕ} {at : ℕ} → Here (txnForm anyLength) s at → Here (setForm anyLength) s (at + writesAt)
+writes-here h = here-of (setForm anyLength) (open-txn anyLength (h .fills) .writes)
+
+pub reads-here : {s : List ℕ} {at r : ℕ} → Here (txnForm anyLength) s at → Ends (setForm anyLength) s (at + writesAt) r → Here (setForm anyLength) s r
+reads-here h x = let o = open-txn anyLength (h .fills) in here-of (setForm anyLength) (fills-after (setForm anyLength) (setForm anyLength) x (o .writes) (o .reads))
+
+pub ranges-fills : {s : List ℕ} {at e r q : ℕ} {t : Txn} → Fills (txnForm anyLength) s at t e → Ends (setForm anyLength) s (at + writesAt) r → Ends (setForm anyLength) s r q → Fills (rangesForm anyLength) s q (t .ranges) e
+ranges-fills p x y =
+    let o = open-txn anyLength p in
+    fills-after (setForm anyLength) (rangesForm anyLength) y (fills-after (setForm anyLength) (setForm anyLength) x (o .writes) (o .reads)) (o .ranges)
+
+pub ranges-here : {s : List ℕ} {at r q : ℕ} → Here (txnForm anyLength) s at → Ends (setForm anyLength) s (at + writesAt) r → Ends (setForm anyLength) s r q → Here (rangesForm anyLength) s q
+ranges-here h x y = here-of (rangesForm anyLength) (ranges-fills (h .fills) x y)
 
 -- the walk over a record that ends where the last of its records ends
 module _ {A : Type 0} (C : Codec A) where
   pub record Walk {B : Type 0} (D : Codec B) (s : List ℕ) (at : ℕ) (c : Cursor) : Type 0 where
     pub val : B
     pub end : ℕ
-    pub whole : Part D s at val end
+    pub whole : Fills D s at val end
     pub rest : List A
     pub left : Before C s c rest
     pub ends : left .end ≡ end
@@ -65,18 +81,18 @@ module _ {A : Type 0} (C : Codec A) where
         go [] b z = ends-at D (w .whole) (b .row .0 ∙ z)
         go (x ∷ xs) b z = absurd (omega (arith, b .count))
 
-pub key-end : (m : ℕ) {s : List ℕ} {at n f : ℕ} {k : Bytes} → Part (keyForm m) s at k f → Stands (number lengthSize) s at n (at + lengthSize) → at + lengthSize + n ≡ f
+pub key-end : (m : ℕ) {s : List ℕ} {at n f : ℕ} {k : Bytes} → Fills (keyForm m) s at k f → Stands (number lengthSize) s at n (at + lengthSize) → at + lengthSize + n ≡ f
 key-end m p w = let o = open-key m p in omega (arith, number-read-is lengthSize (o .length-at) w)
 
-pub bound-end : (m : ℕ) {s : List ℕ} {at n f : ℕ} {b : Bound} → Part (boundForm m) s at b f → Stands (number lengthSize) s (at + tagSize) n (at + tagSize + lengthSize) → at + boundKeyAt + n ≡ f
+pub bound-end : (m : ℕ) {s : List ℕ} {at n f : ℕ} {b : Bound} → Fills (boundForm m) s at b f → Stands (number lengthSize) s (at + tagSize) n (at + tagSize + lengthSize) → at + boundKeyAt + n ≡ f
 bound-end m p w = omega (arith, key-end _ (open-bound m p .key) w)
 
 pub set-walk : (m : ℕ) {s : List ℕ} {at : ℕ} {c : Cursor} (x : Here (setForm m) s at) → CountAt s at c → Walk (keyForm m) (setForm m) s at c
 unfolding before-list
 set-walk m {s} {at} {c} x n =
-    record { val = x .val; end = x .end; whole = x .part; rest = x .val; left = before-list (keyForm m) s c below at (x .val) (x .end) (open-set m (x .part)) n; ends = refl }
+    record { val = x .val; end = x .end; whole = x .fills; rest = x .val; left = before-list (keyForm m) s c below at (x .val) (x .end) (open-set m (x .fills)) n; ends = refl }
 
 pub ranges-walk : (m : ℕ) {s : List ℕ} {at : ℕ} {c : Cursor} (x : Here (rangesForm m) s at) → CountAt s at c → Walk (rangeForm m) (rangesForm m) s at c
 unfolding before-list
 ranges-walk m {s} {at} {c} x n =
-    record { val = x .val; end = x .end; whole = x .part; rest = x .val; left = before-list (rangeForm m) s c anyOrder at (x .val) (x .end) (open-ranges m (x .part)) n; ends = refl }
+    record { val = x .val; end = x .end; whole = x .fills; rest = x .val; left = before-list (rangeForm m) s c anyOrder at (x .val) (x .end) (open-ranges m (x .fills)) n; ends = refl }

@@ -13,26 +13,26 @@ use Rattle.machine.specs.Sets.{equal, put, find, without}
 use Rattle.machine.proofs.ListLaws.{keep-append}
 use Rattle.machine.proofs.SetLaws.{above-ascends}
 use Rattle.machine.proofs.ActiveLaws.{above-none, without-same}
-use Rattle.places.specs.Finds.{Passed, Stops, HereIn, BeforeIn}
+use Rattle.places.specs.Finds.{IdsPassed, Stops, HereIn, BeforeIn}
 
 -- ---------------------------------------------------------------- past those with a lesser id
 
 module _ (i : Bytes) where
-  find-past : (front rest : List Txn) → Passed i front → find i (front ++ rest) ≡ find i rest
+  find-past : (front rest : List Txn) → IdsPassed i front → find i (front ++ rest) ≡ find i rest
   unfolding find
   find-past [] rest a = refl
   find-past (u ∷ us) rest a = rw (ap isSame (a .0)) (find-past us rest (a .1))
 
-  passed-none : (front : List Txn) → Passed i front → find i front ≡ none
+  passed-none : (front : List Txn) → IdsPassed i front → find i front ≡ none
   unfolding find
   passed-none [] a = refl
   passed-none (u ∷ us) a = rw (ap isSame (a .0)) (passed-none us (a .1))
 
-  without-past : (front rest : List Txn) → Passed i front → without i (front ++ rest) ≡ front ++ without i rest
+  without-past : (front rest : List Txn) → IdsPassed i front → without i (front ++ rest) ≡ front ++ without i rest
   unfolding without
   without-past front rest a = keep-append (λ u. not (equal i (u .id))) front rest ∙ ap (λ (l : List Txn). l ++ keep (λ u. not (equal i (u .id))) rest) (without-same i front (passed-none front a))
 
-put-past : (t : Txn) (front rest : List Txn) → Passed (t .id) front → put t (front ++ rest) ≡ front ++ put t rest
+put-past : (t : Txn) (front rest : List Txn) → IdsPassed (t .id) front → put t (front ++ rest) ≡ front ++ put t rest
 unfolding put
 put-past t [] rest a = refl
 put-past t (u ∷ us) rest a = rw (a .0) (ap (λ (l : List Txn). u ∷ l) (put-past t us rest (a .1)))

@@ -43,8 +43,8 @@ module _ {A : Type 0} (C : Codec A) where
     pub holds : P front []
 
   module _ (P : List A → List A → Type 0) {s : List ℕ} {at n : ℕ} where
-    pub start : {c : Cursor} → ((xs : List A) → P [] xs) → Rows C s at n → (c .at ≡ at) × (c .left ≡ n) → Search P s at n c
-    start {c} h x q =
+    pub search-start : {c : Cursor} → ((xs : List A) → P [] xs) → Rows C s at n → (c .at ≡ at) × (c .left ≡ n) → Search P s at n c
+    search-start {c} h x q =
         let i = row-inside C s at (x .vals) (x .end) (x .row) in
         record {
           front = [];
@@ -64,15 +64,15 @@ module _ {A : Type 0} (C : Codec A) where
       pub turn-here : Turn P s at n c → Here C s (c .at)
       turn-here t = before-here C s c (t .one) (t .back) (t .walk .after)
 
-      pub over : Search P s at n c → c .left ≤ 0 → Over P s at n c
-      over x h = go (x .rest) (x .walk) (x .holds)
+      pub search-over : Search P s at n c → c .left ≤ 0 → Over P s at n c
+      search-over x h = go (x .rest) (x .walk) (x .holds)
         where
           go : (xs : List A) → Split s at n (x .front) c xs → P (x .front) xs → Over P s at n c
           go [] w p = record { front = x .front; walk = w; holds = p }
           go (a ∷ xs) w p = absurd (omega (arith, w .after .count))
 
-      pub next : (Q : List A → List A → Type 0) {d : Cursor} {r : ℕ} (t : Turn P s at n c) → Ends C s (c .at) r → d ≡ past c r → Q (t .front ++ (t .one ∷ [])) (t .back) → Search Q s at n d
-      next Q {d} {r} t x j h =
+      pub search-next : (Q : List A → List A → Type 0) {d : Cursor} {r : ℕ} (t : Turn P s at n c) → Ends C s (c .at) r → d ≡ past c r → Q (t .front ++ (t .one ∷ [])) (t .back) → Search Q s at n d
+      search-next Q {d} {r} t x j h =
           let w = t .walk in
           let p = w .after .row .first in
           let q : r ≡ w .after .row .end = x .is (t .one) (w .after .row .end) p in

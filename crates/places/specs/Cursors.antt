@@ -8,14 +8,14 @@ use Rattle.kinds.specs.Bounds.{Bound}
 use Rattle.kinds.specs.declared.kind.Kind.{Kind}
 use Rattle.bounds.specs.Ranges.{Range, holds}
 use Rattle.ranges.specs.Made.{kindOf}
-use Rattle.machine.specs.State.{Bytes, base}
+use Rattle.machine.specs.State.{Bytes}
 use Rattle.machine.specs.Sets.{equal}
-use Rattle.layout.specs.Offsets.{countSize}
+use Rattle.layout.specs.Offsets.{countSize, anyLength}
 use Rattle.codec.specs.Codec.{Codec}
 use Rattle.codec.specs.Formats.{number}
 use Rattle.codec.specs.Stands.{Stands}
 use Rattle.layout.specs.Keys.{keyForm, boundForm, rangeForm}
-use Rattle.layout.specs.Rows.{Part, Row}
+use Rattle.layout.specs.Rows.{Fills, Row}
 use Rattle.places.specs.declared.cursor.Cursor.{Cursor}
 
 abbrev pub past : Cursor → ℕ → Cursor
@@ -33,10 +33,10 @@ pub record Before {A : Type 0} (C : Codec A) (s : List ℕ) (c : Cursor) (xs : L
 
 -- what is promised of the record at a place, whatever it is
 pub record KindAt (s : List ℕ) (at : ℕ) (r : Kind) : Type 0 where
-  pub is : (b : Bound) (e : ℕ) → Part (boundForm (base .key)) s at b e → r ≡ kindOf b
+  pub is : (b : Bound) (e : ℕ) → Fills (boundForm anyLength) s at b e → r ≡ kindOf b
 
 pub record IsKey (s : List ℕ) (c : Cursor) (k : Bytes) (r : Bool) : Type 0 where
-  pub is : (m : Bytes) (e : ℕ) → Part (keyForm (base .key)) s (c .at) m e → r ≡ equal k m
+  pub is : (m : Bytes) (e : ℕ) → Fills (keyForm anyLength) s (c .at) m e → r ≡ equal k m
 
 pub record Holds (s : List ℕ) (c : Cursor) (k : Bytes) (r : Bool) : Type 0 where
-  pub is : (g : Range) (e : ℕ) → Part (rangeForm (base .key)) s (c .at) g e → r ≡ holds g k
+  pub is : (g : Range) (e : ℕ) → Fills (rangeForm anyLength) s (c .at) g e → r ≡ holds g k

@@ -2,8 +2,7 @@
 ghost use mathlib.Core.Path.{_≡_};
 ghost use Prim.Native.Nat.{_+_, _<_, _≤_};
 ghost use lib.ListN.{length};
-ghost use Rattle.machine.specs.State.{base};
-ghost use Rattle.layout.specs.Offsets.{countSize};
+ghost use Rattle.layout.specs.Offsets.{countSize, anyLength};
 ghost use Rattle.layout.specs.Keys.{keyForm, boundForm, rangeForm};
 ghost use Rattle.layout.specs.Rows.{Here};
 ghost use Rattle.places.specs.Cursors.{past, CountAt, KindAt, IsKey, Holds};
@@ -56,7 +55,7 @@ impl Cursor {
 
     // Whether the key there is this one.
     pub fn is_key(self, room: &[u8], key: &[u8]) -> bool
-        requires { ⌜ Here (keyForm (base .key)) (now room) (self .at) ⌝ }
+        requires { ⌜ Here (keyForm anyLength) (now room) (self .at) ⌝ }
         ensures { λ r. ⌜ IsKey (now (room .entry)) self (now (key .entry)) r ⌝ }
     {
         let from = self.at + LENGTH;
@@ -66,7 +65,7 @@ impl Cursor {
 
     // Whether the range there holds this key.
     pub fn holds(self, room: &[u8], key: &[u8]) -> bool
-        requires { ⌜ Here (rangeForm (base .key)) (now room) (self .at) ⌝ }
+        requires { ⌜ Here (rangeForm anyLength) (now room) (self .at) ⌝ }
         ensures { λ r. ⌜ Holds (now (room .entry)) self (now (key .entry)) r ⌝ }
     {
         let middle = bound_past(room, self.at);
@@ -82,7 +81,7 @@ impl Cursor {
 
 // A bound of a valid room has one of three tags.
 fn kind_at(room: &[u8], at: usize) -> Kind
-    requires { ⌜ Here (boundForm (base .key)) (now room) at ⌝ }
+    requires { ⌜ Here (boundForm anyLength) (now room) at ⌝ }
     ensures { λ r. ⌜ KindAt (now (room .entry)) at r ⌝ }
 {
     let tag = room[at];

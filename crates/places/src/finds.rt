@@ -6,7 +6,7 @@ use codec::numbers::read_eight;
 use keys::compare;
 use layout::ID;
 use layout::START;
-ghost use Rattle.machine.specs.State.{base};
+ghost use Rattle.layout.specs.Offsets.{anyLength};
 ghost use Rattle.layout.specs.Records.{txnForm};
 ghost use Rattle.layout.specs.Rows.{Rows};
 ghost use Rattle.places.specs.Finds.{Found, LowestIs};
@@ -19,7 +19,7 @@ pub enum Place {
 
 // Looks for an id among the n transactions from a place on.
 pub fn find_txn(room: &[u8], at: usize, n: usize, id: &[u8]) -> Place
-    requires { ⌜ Rows (txnForm (base .key)) (now room) at n ⌝ }
+    requires { ⌜ Rows (txnForm anyLength) (now room) at n ⌝ }
     ensures { λ r. ⌜ Found (now (room .entry)) at n (now (id .entry)) r ⌝ }
 {
     let mut c = Cursor::new(at, n);
@@ -41,7 +41,7 @@ pub fn find_txn(room: &[u8], at: usize, n: usize, id: &[u8]) -> Place
 
 // The least of `most` and the starts of the n transactions from a place on.
 pub fn least_start(room: &[u8], at: usize, n: usize, most: u64) -> u64
-    requires { ⌜ Rows (txnForm (base .key)) (now room) at n ⌝ }
+    requires { ⌜ Rows (txnForm anyLength) (now room) at n ⌝ }
     ensures { λ r. ⌜ LowestIs (now (room .entry)) at n most r ⌝ }
 {
     let mut c = Cursor::new(at, n);

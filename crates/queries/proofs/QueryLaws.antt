@@ -4,7 +4,6 @@ use mathlib.Core.Path.{_≡_, refl, sym, ap, _∙_, subst}
 use mathlib.Core.Bool.{Bool}
 use mathlib.Core.List.{List, [], _∷_}
 use native.Mathlib.Omega.{arith}
-use mathlib.Core.Option.{none}
 use lib.ListN.{length}
 use Rattle.machine.specs.State.{Bytes, Txn, base, TxnOk}
 use Rattle.machine.specs.Lists.{All}
@@ -12,19 +11,18 @@ use Rattle.machine.specs.Sets.{leastOf, conflict}
 use Rattle.machine.specs.Calls.{on, check, minimum, malformed}
 use Rattle.machine.specs.Serve.{verdict}
 use Rattle.layout.specs.Offsets.{idSize, entriesAt}
-use Rattle.layout.specs.Records.{txnForm}
 use Rattle.layout.specs.Rooms.{Served}
-use Rattle.layout.specs.Rows.{Here}
 use Rattle.layout.proofs.LoadLaws.{refuse, look, look-absent}
 use Rattle.places.specs.declared.finds.Place.{Place}
-use Rattle.places.specs.Finds.{Found, HereIn, LowestIs, lowest}
-use Rattle.places.proofs.FindLaws.{here-finds, before-finds}
+use Rattle.places.specs.Finds.{Found, LowestIs, lowest}
 use Rattle.places.proofs.LowLaws.{lowest-least}
 use Rattle.search.specs.Search.{Searched}
 use Rattle.room.specs.declared.View.{View}
 use Rattle.room.specs.Views.{Seen}
-use Rattle.answers.proofs.StateLaws.{none-left, check-malformed, check-absent, check-done, minimum-nobody, minimum-done}
-use Rattle.answers.proofs.SeenLaws.{seen-load, seen-held, entry-row, active-row, found-in}
+use Rattle.machine.proofs.ListLaws.{none-left}
+use Rattle.answers.proofs.StateLaws.{check-malformed, check-absent, check-done, minimum-nobody, minimum-done}
+use Rattle.answers.proofs.SeenLaws.{seen-load, seen-held, entry-row, active-row}
+use Rattle.answers.proofs.FoundLaws.{not-found, here, found}
 
 -- ---- check
 
@@ -33,21 +31,13 @@ module _ (s : List ℕ) (v : View) (id : Bytes) (w : Seen s v) where
   checks-malformed h = refuse s (w .state) (check id) (seen-load w) malformed (check-malformed base (w .state) id h)
 
   pub checks-absent : {p : ℕ} → length id ≡ idSize → Found s (v .middle) (v .active) id (Place.Before p) → Served s (on (check id)) 1 0 s
-  checks-absent {p} h f =
-      let unknown = before-finds (found-in w id (Place.Before p) f) (seen-held w .kept .distinct) in
-      look-absent s (w .state) (check id) (seen-load w) 0 (check-absent base (w .state) id h unknown)
+  checks-absent {p} h f = look-absent s (w .state) (check id) (seen-load w) 0 (check-absent base (w .state) id h (not-found w f))
 
-  module _ {p q : ℕ} (f : Found s (v .middle) (v .active) id (Place.Here p q)) where
-    found : HereIn s (v .middle) id (w .state .active) (v .used) p q
-    found = found-in w id (Place.Here p q) f
-
-    pub found-here : Here (txnForm (base .key)) s p
-    found-here = record { val = found .one; end = q; part = found .part }
-
-    pub checks : {b : Bool} → length id ≡ idSize → Searched s entriesAt (v .entries) p b → Served s (on (check id)) 0 (verdict b) s
-    checks {b} h r =
-        let e : b ≡ conflict (found .one) (w .state .entries) = r .is (w .state .entries) (v .middle) (found .one) q (entry-row w) (sym (w .entries)) (found .part) in
-        subst (λ (x : Bool). Served s (on (check id)) 0 (verdict x) s) (sym e) (look s (w .state) (check id) (seen-load w) (verdict (conflict (found .one) (w .state .entries))) (check-done base (w .state) id (found .one) h (here-finds found)))
+  pub checks : {p q : ℕ} (f : Found s (v .middle) (v .active) id (Place.Here p q)) {b : Bool} → length id ≡ idSize → Searched s entriesAt (v .entries) p b → Served s (on (check id)) 0 (verdict b) s
+  checks {p} {q} f {b} h r =
+      let t = here w f .one in
+      let e : b ≡ conflict t (w .state .entries) = r .is (w .state .entries) (v .middle) t q (entry-row w) (sym (w .entries)) (here w f .fills) in
+      subst (λ (x : Bool). Served s (on (check id)) 0 (verdict x) s) (sym e) (look s (w .state) (check id) (seen-load w) (verdict (conflict t (w .state .entries))) (check-done base (w .state) id t h (found w f)))
 
 -- ---- minimum
 

@@ -2,7 +2,7 @@
 use Prim.Native.Nat.{ℕ, _≤_}
 use mathlib.Core.Path.{_≡_, sym, ap, _∙_, subst}
 use mathlib.Core.Logic.{_⊎_}
-use mathlib.Core.List.{List, _++_, append-assoc}
+use mathlib.Core.List.{List, _++_}
 use native.Mathlib.Omega.{arith}
 use lib.ListN.{length, take, drop, take-append-drop}
 use lib.Seq.{length-take-le, drop-append-le}
@@ -10,11 +10,11 @@ use Rattle.machine.specs.State.{base}
 use Rattle.machine.specs.Calls.{Room, short, broken}
 use Rattle.codec.specs.Codec.{item}
 use Rattle.codec.specs.Formats.{only}
-use Rattle.layout.specs.States.{plainForm, stateForm, roomSize}
-use Rattle.layout.proofs.FrontLaws.{load-front}
+use Rattle.layout.specs.States.{stateForm, roomSize}
+use Rattle.layout.proofs.FrontLaws.{load-front, more-behind}
 use Rattle.room.specs.declared.View.{View}
 use Rattle.room.specs.declared.Opened.{Opened}
-use Rattle.room.specs.Views.{Seen, NoState, Opening}
+use Rattle.room.specs.Views.{Seen, HoldsNone, Opening}
 
 module _ (s : List ℕ) (h : roomSize base ≤ length s) where
   -- the bytes of the published size
@@ -32,12 +32,11 @@ module _ (s : List ℕ) (h : roomSize base ≤ length s) where
   seen-more : {v : View} → Seen first v → Seen s v
   unfolding stateForm only
   seen-more {v} w =
-      let x = stateForm base .read-is first (w .state) (drop (v .used) first) (w .whole .reads) in
-      let e : s ≡ plainForm (base .key) .write (w .state) ++ (drop (v .used) first ++ drop (roomSize base) s) = more ∙ ap (λ (l : List ℕ). l ++ drop (roomSize base) s) (x .0) ∙ append-assoc (plainForm (base .key) .write (w .state)) (drop (v .used) first) (drop (roomSize base) s) in
+      let x = more-behind base first (drop (roomSize base) s) (w .state) (drop (v .used) first) (w .whole .reads) in
       let d : drop (v .used) s ≡ drop (v .used) first ++ drop (roomSize base) s = ap (drop (v .used)) more ∙ drop-append-le (v .used) first (drop (roomSize base) s) (w .inside) in
       record {
         state = w .state;
-        whole = record { reads = ap (stateForm base .read) e ∙ stateForm base .write-is (w .state) (drop (v .used) first ++ drop (roomSize base) s) (x .1) ∙ ap (item (w .state)) (sym d) };
+        whole = record { reads = ap (stateForm base .read) more ∙ x ∙ ap (item (w .state)) (sym d) };
         inside = omega (arith, w .inside, first-length);
         size = h;
         last = w .last;
@@ -48,7 +47,7 @@ module _ (s : List ℕ) (h : roomSize base ≤ length s) where
         bytes = w .bytes;
       }
 
-  none-more : NoState first → NoState s
+  none-more : HoldsNone first → HoldsNone s
   unfolding first
   none-more w = record { none = subst (λ (x : Room). (x ≡ short) ⊎ (x ≡ broken)) (sym (load-front base s)) (w .none) }
 

@@ -1,7 +1,9 @@
 pub mod HeadLaws
 pub mod OpenLaws
 pub mod FirstLaws
+pub mod ChainLaws
 pub mod GoingLaws
-pub mod SetLaws
+pub mod KeyLaws
 pub mod RangeLaws
+pub mod ListLaws
 pub mod EntryLaws

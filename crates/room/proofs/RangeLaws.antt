@@ -1,4 +1,4 @@
--- What a walk over a bound and over a range finds, for any key limit.
+-- A bound stands where its tag and its key do, a range where two bounds do that are not empty together; for any key limit.
 use Prim.Native.Nat.{ℕ, _+_, _-_, _≤_, _<_}
 use mathlib.Core.Path.{_≡_, refl, sym, ap, ap₂, _∙_}
 use mathlib.Core.Bool.{Bool, true, false}
@@ -10,23 +10,25 @@ use lib.Seq.{length-take-le}
 use Rattle.kinds.specs.Bounds.{included, excluded, bound}
 use Rattle.kinds.specs.declared.kind.Kind.{Kind}
 use Rattle.kinds.specs.declared.kind.Kind.the-variants.{Unbounded, Included, Excluded}
+use Rattle.ranges.specs.Made.{keyOf}
 use Rattle.fields.specs.Fields.{boundTag}
 use Rattle.bounds.specs.declared.comparable_range.ComparableRange.{ComparableRange}
 use Rattle.bounds.specs.Ranges.{Range, range, rangeOf, notEmpty, notEmptyPair}
-use Rattle.machine.specs.State.{Bytes, rangeBytes}
+use Rattle.machine.specs.State.{Bytes}
 use Rattle.codec.specs.Codec.{item}
 use Rattle.codec.specs.Formats.{number, bind, only, via}
 use Rattle.codec.specs.Stands.{Stands}
 use Rattle.codec.proofs.NumberLaws.{stands-number}
-use Rattle.layout.specs.Offsets.{countSize, lengthSize, tagSize, boundKeyAt}
-use Rattle.layout.specs.Keys.{boundForm, pairForm, rangeForm, rangesForm, anyOrder}
+use Rattle.layout.specs.Offsets.{lengthSize, tagSize, boundKeyAt}
+use Rattle.layout.specs.Keys.{boundForm, pairForm, rangeForm}
+use Rattle.layout.proofs.OpenLaws.{open-key}
 use Rattle.room.specs.declared.tally.Tally.{Tally}
 use Rattle.room.specs.declared.tally.Walked.{Walked}
 use Rattle.room.specs.declared.tally.Walked.the-variants.{Ends, Cut}
-use Rattle.room.specs.Counts.{aKey, aRange, someRanges, runOf}
+use Rattle.room.specs.Counts.{aKey, aRange}
 use Rattle.room.specs.Walks.{Got, Missing, Walks, between}
-use Rattle.room.specs.BoundWalks.{BoundEnds, BoundIs, asBound}
-use Rattle.room.proofs.SetLaws.{number-short, key-size, key-labelled, list-short, list-ends}
+use Rattle.room.specs.BoundWalks.{BoundEnds, BoundIs, boundWalked}
+use Rattle.room.proofs.KeyLaws.{number-short, key-labelled}
 
 -- ---- bounds
 
@@ -44,14 +46,14 @@ module _ (limit : ℕ) (s : List ℕ) (at : ℕ) where
 
   -- the bound of a kind whose key was walked
   module _ (h : at + tagSize ≤ length s) (small : (i : ℕ) → getD s i 0 < 256) where
-    pub unbounded-ends : getD s at 0 ≡ (boundTag Unbounded) → (w : Walked) → Walks (aKey 0) s (at + tagSize) w → BoundIs limit s at (asBound Unbounded w)
+    pub unbounded-ends : getD s at 0 ≡ (boundTag Unbounded) → (w : Walked) → Walks (aKey 0) s (at + tagSize) w → BoundIs limit s at (boundWalked Unbounded w)
     unfolding boundForm via bind only
     unbounded-ends e (Ends t) g =
-        let z = key-size (g .part) in
+        let z = open-key 0 (g .fills) in
         record {
-          part = record { stands = record { reads = rw (tag-stands (boundTag Unbounded) h small e .reads, g .part .stands .reads) }; from = omega (arith, g .part .from); inside = g .part .inside };
-          far = omega (arith, z .0);
-          size = omega (arith, z .0, z .1);
+          fills = record { stands = record { reads = rw (tag-stands (boundTag Unbounded) h small e .reads, g .fills .stands .reads) }; from = omega (arith, g .fills .from); inside = g .fills .inside };
+          far = omega (arith, z .ends);
+          size = omega (arith, z .ends, z .short);
         }
     unbounded-ends e Cut m = record { reads = rw (tag-stands (boundTag Unbounded) h small e .reads, m .reads) }
 
@@ -59,38 +61,32 @@ module _ (limit : ℕ) (s : List ℕ) (at : ℕ) where
       key-is : g .val ≡ between s (at + boundKeyAt) (t .end)
       key-is =
           let j : at + tagSize + lengthSize ≡ at + boundKeyAt = omega arith in
-          key-labelled limit s (at + tagSize) (t .end) (g .val) (g .part) .1 ∙ ap (λ (p : ℕ). between s p (t .end)) j
+          key-labelled limit s (at + tagSize) (t .end) (g .val) (g .fills) .1 ∙ ap (λ (p : ℕ). between s p (t .end)) j
 
       key-ends : (at + boundKeyAt ≤ t .end) × (length (between s (at + boundKeyAt) (t .end)) ≡ t .end - (at + boundKeyAt))
       key-ends =
-          let f : at + boundKeyAt ≤ t .end = omega (arith, key-labelled limit s (at + tagSize) (t .end) (g .val) (g .part) .0) in
-          let i : t .end ≤ length s = g .part .inside in
+          let f : at + boundKeyAt ≤ t .end = omega (arith, key-labelled limit s (at + tagSize) (t .end) (g .val) (g .fills) .0) in
+          let i : t .end ≤ length s = g .fills .inside in
           (f, length-take-le (t .end - (at + boundKeyAt)) (drop (at + boundKeyAt) s) (rw (length-drop (at + boundKeyAt) s) (omega arith)))
 
-    pub included-ends : getD s at 0 ≡ (boundTag Included) → (w : Walked) → Walks (aKey limit) s (at + tagSize) w → BoundIs limit s at (asBound Included w)
+      key-stands : (k : Kind) → keyOf (bound k (between s (at + boundKeyAt) (t .end))) ≡ between s (at + boundKeyAt) (t .end)
+          → Stands (boundForm limit) s at (bound k (between s (at + boundKeyAt) (t .end))) (t .end) → BoundEnds limit s at k (t .end)
+      key-stands k same r = record {
+        fills = record { stands = r; from = omega (arith, g .fills .from); inside = g .fills .inside };
+        far = key-ends .0;
+        size = ap length same ∙ key-ends .1;
+      }
+
+    pub included-ends : getD s at 0 ≡ (boundTag Included) → (w : Walked) → Walks (aKey limit) s (at + tagSize) w → BoundIs limit s at (boundWalked Included w)
     unfolding boundForm via bind only
-    included-ends e (Ends t) g = record {
-      part = record {
-        stands = record { reads = rw (tag-stands (boundTag Included) h small e .reads, g .part .stands .reads) (ap (λ (k : Bytes). item (included k) (drop (t .end) s)) (key-is g)) };
-        from = omega (arith, g .part .from);
-        inside = g .part .inside;
-      };
-      far = key-ends g .0;
-      size = key-ends g .1;
-    }
+    included-ends e (Ends t) g =
+        key-stands g Included refl (record { reads = rw (tag-stands (boundTag Included) h small e .reads, g .fills .stands .reads) (ap (λ (k : Bytes). item (included k) (drop (t .end) s)) (key-is g)) })
     included-ends e Cut m = record { reads = rw (tag-stands (boundTag Included) h small e .reads, m .reads) }
 
-    pub excluded-ends : getD s at 0 ≡ (boundTag Excluded) → (w : Walked) → Walks (aKey limit) s (at + tagSize) w → BoundIs limit s at (asBound Excluded w)
+    pub excluded-ends : getD s at 0 ≡ (boundTag Excluded) → (w : Walked) → Walks (aKey limit) s (at + tagSize) w → BoundIs limit s at (boundWalked Excluded w)
     unfolding boundForm via bind only
-    excluded-ends e (Ends t) g = record {
-      part = record {
-        stands = record { reads = rw (tag-stands (boundTag Excluded) h small e .reads, g .part .stands .reads) (ap (λ (k : Bytes). item (excluded k) (drop (t .end) s)) (key-is g)) };
-        from = omega (arith, g .part .from);
-        inside = g .part .inside;
-      };
-      far = key-ends g .0;
-      size = key-ends g .1;
-    }
+    excluded-ends e (Ends t) g =
+        key-stands g Excluded refl (record { reads = rw (tag-stands (boundTag Excluded) h small e .reads, g .fills .stands .reads) (ap (λ (k : Bytes). item (excluded k) (drop (t .end) s)) (key-is g)) })
     excluded-ends e Cut m = record { reads = rw (tag-stands (boundTag Excluded) h small e .reads, m .reads) }
 
 -- ---- ranges
@@ -102,7 +98,7 @@ no-start limit h = record { reads = rw (h .reads) }
 module _ (limit : ℕ) {s : List ℕ} {at m : ℕ} {k : Kind} (a : BoundEnds limit s at k m) where
   pub no-end : Missing (boundForm limit) s m → Missing (rangeForm limit) s at
   unfolding rangeForm pairForm only via bind
-  no-end h = record { reads = rw (a .part .stands .reads, h .reads) }
+  no-end h = record { reads = rw (a .fills .stands .reads, h .reads) }
 
   module _ {e : ℕ} {l : Kind} (b : BoundEnds limit s m l e) where
     abbrev pub found : Range
@@ -113,24 +109,15 @@ module _ (limit : ℕ) {s : List ℕ} {at m : ℕ} {k : Kind} (a : BoundEnds lim
 
     pub range-empty : notEmpty found ≡ false → Missing (rangeForm limit) s at
     unfolding rangeForm pairForm only via bind
-    range-empty h = record { reads = rw (a .part .stands .reads, b .part .stands .reads, h) }
+    range-empty h = record { reads = rw (a .fills .stands .reads, b .fills .stands .reads, h) }
 
     pub range-got : notEmpty found ≡ true → Got (aRange limit) s at (record { end = e; marks = 1; bytes = m - (at + boundKeyAt) + (e - (m + boundKeyAt)); high = 0 })
     unfolding rangeForm pairForm only via bind
     range-got h = record {
       val = found;
-      part = record { stands = record { reads = rw (a .part .stands .reads, b .part .stands .reads, h) }; from = omega (arith, a .far, b .far); inside = b .part .inside };
+      fills = record { stands = record { reads = rw (a .fills .stands .reads, b .fills .stands .reads, h) }; from = omega (arith, a .far, b .far); inside = b .fills .inside };
       marks = refl;
       bytes = sym (ap₂ (λ (x y : ℕ). x + y) (a .size) (b .size));
       high = refl;
       fits = omega (arith, a .far, b .far);
     }
-
-module _ (limit : ℕ) (s : List ℕ) (at : ℕ) where
-  pub ranges-short : length s - at < countSize → Missing (rangesForm limit) s at
-  unfolding rangesForm
-  ranges-short h = list-short (rangeForm limit) anyOrder s at h
-
-  pub ranges-ends : (n : ℕ) → Stands (number countSize) s at n (at + countSize) → (w : Walked) → Walks (runOf (aRange limit) anyOrder n) s (at + countSize) w → Walks (someRanges limit) s at w
-  unfolding rangesForm
-  ranges-ends n r w g = list-ends (rangeForm limit) anyOrder s at rangeBytes n r w g

@@ -14,6 +14,7 @@ use Rattle.layout.specs.Records.{entryForm, txnForm}
 use Rattle.layout.specs.States.{highest, seqOf, startOf}
 use Rattle.room.specs.declared.tally.Tally.{Tally}
 
+-- a format, and what each of its values counts
 pub record Counted (A : Type 0) : Type 1 where
   pub form : Codec A
   pub marks : A → ℕ
@@ -43,8 +44,10 @@ aTxn m = record { form = txnForm m; marks = txnMarks; bytes = txnBytes; high = s
 abbrev pub runOf : {A : Type 0} → Counted A → (A → A → Bool) → ℕ → Counted (List A)
 runOf K before n = record { form = run (K .form) before n; marks = sum (K .marks); bytes = sum (K .bytes); high = highest (K .high) }
 
+-- nothing is counted yet
 abbrev pub emptyTally : ℕ → Tally
 emptyTally at = record { end = at; marks = 0; bytes = 0; high = 0 }
 
+-- what is counted up to a place, and what the record at that place counts
 abbrev pub plus : Tally → Tally → Tally
 plus t u = record { end = u .end; marks = t .marks + u .marks; bytes = t .bytes + u .bytes; high = max (t .high) (u .high) }

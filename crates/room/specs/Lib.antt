@@ -1,4 +1,5 @@
 pub mod Views
 pub mod Counts
 pub mod Walks
+pub mod Chains
 pub mod BoundWalks

@@ -1,34 +1,32 @@
 // A lent room: the validating walk over it, once for each call.
 ghost use mathlib.Core.Path.{_≡_};
-ghost use Prim.Native.Nat.{_+_, _≤_};
+ghost use Prim.Native.Nat.{_≤_};
 ghost use lib.ListN.{length};
-ghost use Rattle.keys.specs.Limit.{keyLimit};
-ghost use Rattle.room.specs.Walks.{Walks, Apart};
-ghost use Rattle.room.specs.Counts.{anEntry, aTxn, runOf};
 ghost use Rattle.machine.specs.State.{base};
-ghost use Rattle.layout.specs.Offsets.{idSize, entriesAt};
-ghost use Rattle.layout.specs.Keys.{anyOrder};
-ghost use Rattle.layout.specs.Records.{belowId};
+ghost use Rattle.layout.specs.Offsets.{entriesAt};
 ghost use Rattle.layout.specs.States.{roomSize};
-ghost use Rattle.room.specs.Views.{HeadAt, idFollows, soundly, Opening};
+ghost use Rattle.room.specs.Views.{HeadAt, soundly, Opening};
 use crate::ceilings::ACTIVE_LIMIT;
 use crate::ceilings::BYTE_LIMIT;
 use crate::ceilings::ENTRY_LIMIT;
 use crate::ceilings::MARK_LIMIT;
 use crate::ceilings::SIZE;
+use crate::record::active_end;
+use crate::run::Loose;
+use crate::run::run_end;
 use crate::tally::Tally;
 use crate::tally::Walked;
 use layout::ACTIVE_COUNT;
 use layout::ENTRIES;
 use layout::ENTRY_COUNT;
-use layout::ID;
 use layout::LAST;
 use layout::STAMP;
 
 pub mod ceilings;
+pub mod key;
 pub mod range;
 pub mod record;
-pub mod set;
+pub mod run;
 pub mod tally;
 
 // What stands before the entries: the last number, how many entries, how many active.
@@ -38,6 +36,7 @@ struct Top {
     active: usize,
 }
 
+// What stands before the entries, or that the stamp is another.
 enum Headed {
     Is(Top),
     No,
@@ -55,11 +54,13 @@ pub struct View {
     pub bytes: usize,
 }
 
+// The record that a room holds, or that it holds none.
 pub enum Opened {
     Of(View),
     Bad,
 }
 
+// The head of a room, which the stamp decides.
 fn head(room: &[u8]) -> Headed
     requires { ⌜ entriesAt ≤ length (now room) ⌝ }
     ensures { λ r. ⌜ HeadAt (now (room .entry)) r ⌝ }
@@ -76,62 +77,6 @@ fn head(room: &[u8]) -> Headed
         entries,
         active,
     })
-}
-
-// Where n entries end.
-fn entries_end(room: &[u8], at: usize, n: usize) -> Walked
-    requires { ⌜ at ≤ length (now room) ⌝ }
-    ensures { λ r. ⌜ Walks (runOf (anEntry keyLimit) anyOrder n) (now (room .entry)) at r ⌝ }
-{
-    let mut t = Tally::start(at);
-    let mut left = n;
-    while 0 < left {
-        match crate::record::entry_end(room, t.end) {
-            Walked::Ends(u) => {
-                t = t.joined(u);
-                left -= 1;
-            }
-            Walked::Cut => return Walked::Cut,
-        }
-    }
-    Walked::Ends(t)
-}
-
-// Whether the id of the transaction at e comes after that of the one before it, at p; none is before it if p is e.
-fn id_follows(room: &[u8], p: usize, e: usize) -> bool
-    requires { ⌜ Apart idSize p e × (e + idSize ≤ length (now room)) ⌝ }
-    ensures { λ r. ⌜ r ≡ idFollows (now (room .entry)) p e ⌝ }
-{
-    if p == e {
-        return true;
-    }
-    let a = p + ID;
-    let b = e + ID;
-    keys::compare(&room[p..a], &room[e..b]) < 0
-}
-
-// Where n transactions end, each id above the one before.
-fn active_end(room: &[u8], at: usize, n: usize) -> Walked
-    requires { ⌜ at ≤ length (now room) ⌝ }
-    ensures { λ r. ⌜ Walks (runOf (aTxn keyLimit) belowId n) (now (room .entry)) at r ⌝ }
-{
-    let mut t = Tally::start(at);
-    let mut p = at;
-    let mut left = n;
-    while 0 < left {
-        match crate::record::txn_end(room, t.end) {
-            Walked::Ends(u) => {
-                if !id_follows(room, p, t.end) {
-                    return Walked::Cut;
-                }
-                p = t.end;
-                t = t.joined(u);
-                left -= 1;
-            }
-            Walked::Cut => return Walked::Cut,
-        }
-    }
-    Walked::Ends(t)
 }
 
 // Whether the ceilings are kept, no start or sequence is above the last number, and nobody active means no entries.
@@ -169,13 +114,14 @@ pub fn open(room: &[u8]) -> Opened
     open_record(&room[0..SIZE])
 }
 
+// The same, of a room that is as long as the published size at least.
 fn open_record(room: &[u8]) -> Opened
     requires { ⌜ roomSize base ≤ length (now room) ⌝ }
     ensures { λ r. ⌜ Opening (now (room .entry)) r ⌝ }
 {
     match head(room) {
         Headed::No => Opened::Bad,
-        Headed::Is(top) => match entries_end(room, ENTRIES, top.entries) {
+        Headed::Is(top) => match run_end(room, Loose::Entry, ENTRIES, top.entries) {
             Walked::Cut => Opened::Bad,
             Walked::Ends(t) => match active_end(room, t.end, top.active) {
                 Walked::Cut => Opened::Bad,

@@ -1,12 +1,14 @@
+// The walk over bounds and ranges.
 ghost use mathlib.Core.Path.{_≡_};
-ghost use Prim.Native.Nat.{_+_, _≤_};
+ghost use Prim.Native.Nat.{_≤_};
 ghost use lib.ListN.{length};
 ghost use Rattle.keys.specs.Limit.{keyLimit};
-ghost use Rattle.layout.specs.Keys.{anyOrder};
-ghost use Rattle.room.specs.Counts.{aRange, someRanges, runOf};
+ghost use Rattle.room.specs.Counts.{aRange, someRanges};
 ghost use Rattle.room.specs.Walks.{Walks};
-ghost use Rattle.room.specs.BoundWalks.{BoundIs, asBound};
-use crate::set::key_end;
+ghost use Rattle.room.specs.BoundWalks.{BoundIs, boundWalked};
+use crate::key::key_end;
+use crate::run::Loose;
+use crate::run::run_end;
 use crate::tally::Tally;
 use crate::tally::Walked;
 use bounds::comparable_range::ComparableRange;
@@ -19,28 +21,29 @@ use layout::BOUND;
 use layout::COUNT;
 use layout::TAG;
 
-// The bound at a place: its kind, and where it ends.
-enum BoundAt {
-    Found(Kind, usize),
-    NoBound,
+// The bound at a place, its kind and where it ends, or that none stands there.
+enum StoredBound {
+    Ends(Kind, usize),
+    Cut,
 }
 
 // The bound of a kind whose key was walked.
-fn bound_of(kind: Kind, key: Walked) -> BoundAt
-    ensures { λ r. ⌜ r ≡ asBound kind key ⌝ }
+fn bound_of(kind: Kind, key: Walked) -> StoredBound
+    ensures { λ r. ⌜ r ≡ boundWalked kind key ⌝ }
 {
     match key {
-        Walked::Ends(t) => BoundAt::Found(kind, t.end),
-        Walked::Cut => BoundAt::NoBound,
+        Walked::Ends(t) => StoredBound::Ends(kind, t.end),
+        Walked::Cut => StoredBound::Cut,
     }
 }
 
-fn bound_end(room: &[u8], at: usize) -> BoundAt
+// The bound at a place: a tag and a key.
+fn bound_end(room: &[u8], at: usize) -> StoredBound
     requires { ⌜ at ≤ length (now room) ⌝ }
     ensures { λ r. ⌜ BoundIs keyLimit (now (room .entry)) at r ⌝ }
 {
     if room.len() - at < TAG {
-        return BoundAt::NoBound;
+        return StoredBound::Cut;
     }
     let tag = room[at];
     if tag == UNBOUNDED {
@@ -52,19 +55,19 @@ fn bound_end(room: &[u8], at: usize) -> BoundAt
     if tag == EXCLUDED {
         return bound_of(Kind::Excluded, key_end(room, at + TAG, KEY_LIMIT));
     }
-    BoundAt::NoBound
+    StoredBound::Cut
 }
 
 // Where the range at a place ends, which is not empty.
-fn range_end(room: &[u8], at: usize) -> Walked
+pub fn range_end(room: &[u8], at: usize) -> Walked
     requires { ⌜ at ≤ length (now room) ⌝ }
     ensures { λ r. ⌜ Walks (aRange keyLimit) (now (room .entry)) at r ⌝ }
 {
     match bound_end(room, at) {
-        BoundAt::NoBound => Walked::Cut,
-        BoundAt::Found(start, m) => match bound_end(room, m) {
-            BoundAt::NoBound => Walked::Cut,
-            BoundAt::Found(end, e) => {
+        StoredBound::Cut => Walked::Cut,
+        StoredBound::Ends(start, m) => match bound_end(room, m) {
+            StoredBound::Cut => Walked::Cut,
+            StoredBound::Ends(end, e) => {
                 let a = at + BOUND;
                 let b = m + BOUND;
                 let range = ComparableRange::new(start, end);
@@ -83,26 +86,7 @@ fn range_end(room: &[u8], at: usize) -> Walked
     }
 }
 
-// Where n ranges end.
-fn run_end(room: &[u8], at: usize, n: usize) -> Walked
-    requires { ⌜ at ≤ length (now room) ⌝ }
-    ensures { λ r. ⌜ Walks (runOf (aRange keyLimit) anyOrder n) (now (room .entry)) at r ⌝ }
-{
-    let mut t = Tally::start(at);
-    let mut left = n;
-    while 0 < left {
-        match range_end(room, t.end) {
-            Walked::Ends(u) => {
-                t = t.joined(u);
-                left -= 1;
-            }
-            Walked::Cut => return Walked::Cut,
-        }
-    }
-    Walked::Ends(t)
-}
-
-// Where the list of ranges at a place ends.
+// Where the list of ranges at a place ends: ranges behind their count.
 pub fn ranges_end(room: &[u8], at: usize) -> Walked
     requires { ⌜ at ≤ length (now room) ⌝ }
     ensures { λ r. ⌜ Walks (someRanges keyLimit) (now (room .entry)) at r ⌝ }
@@ -111,5 +95,5 @@ pub fn ranges_end(room: &[u8], at: usize) -> Walked
         return Walked::Cut;
     }
     let n = codec::numbers::read_two(room, at);
-    run_end(room, at + COUNT, n)
+    run_end(room, Loose::Range, at + COUNT, n)
 }

@@ -2,7 +2,7 @@
 use Prim.Native.Nat.{ℕ, _+_, _-_, _≤_, _<_}
 use mathlib.Core.Path.{_≡_, refl, sym, ap, ap₂, _∙_}
 use mathlib.Core.List.{List, [], _∷_}
-use mathlib.Core.Option.{none, some}
+use mathlib.Core.Option.{some}
 use native.Mathlib.Omega.{arith}
 use borrow.Author.Tests.{ne-eqb}
 use lib.ListN.{length, take, drop, length-append, length-drop, drop-of-length-le}
@@ -12,9 +12,10 @@ use Rattle.codec.specs.Codec.{Item, item, cut}
 use Rattle.codec.specs.Formats.{number}
 use Rattle.codec.specs.Stands.{Stands}
 use Rattle.codec.proofs.NumberLaws.{length-number}
-use Rattle.machine.specs.State.{State, Ceilings}
+use Rattle.machine.specs.State.{State, Ceilings, idSize}
 use Rattle.machine.specs.Calls.{Op, commit, batch, minimum, Call, on, holding, replied}
 use Rattle.machine.specs.Serve.{serve, answer}
+use Rattle.layout.specs.Offsets.{numberSize}
 use Rattle.layout.specs.Rooms.{Served}
 use Rattle.script.specs.Script.{withNumber, whenEmpty, commitOf, batchOf, refusedCall, asCall, called, IdEnds}
 
@@ -26,15 +27,15 @@ refused-two L s = refl
 -- ---- the id
 
 module _ (p : List ℕ) where
-  pub id-missing : length p < 16 → IdEnds p (length p)
+  pub id-missing : length p < idSize → IdEnds p (length p)
   id-missing h =
       record {
         inside = omega arith;
-        id = take-all 16 p (omega arith) ∙ sym (take-all (length p) p (omega arith));
-        rest = drop-of-length-le p {i = 16} (omega arith) ∙ sym (drop-of-length-le p {i = length p} (omega arith));
+        id = take-all idSize p (omega arith) ∙ sym (take-all (length p) p (omega arith));
+        rest = drop-of-length-le p {i = idSize} (omega arith) ∙ sym (drop-of-length-le p {i = length p} (omega arith));
       }
 
-  pub id-there : 16 ≤ length p → IdEnds p 16
+  pub id-there : idSize ≤ length p → IdEnds p idSize
   id-there h = record { inside = h; id = refl; rest = refl }
 
 -- an answer for one call is an answer for the same call
@@ -43,45 +44,47 @@ served-as e w = rw (← e) w
 
 -- a payload cut where its id ends
 pub split-as : (f : List ℕ → List ℕ → Op) {p : List ℕ} {r : ℕ} → IdEnds p r
-    → on (f (take (r - 0) p) (take (length p - r) (drop r p))) ≡ on (f (take 16 p) (drop 16 p))
+    → on (f (take (r - 0) p) (take (length p - r) (drop r p))) ≡ on (f (take idSize p) (drop idSize p))
 split-as f {p} {r} w =
     let e : r - 0 ≡ r = omega arith in
     ap₂ (λ (x y : List ℕ). on (f x y)) (ap (λ (n : ℕ). take n p) e ∙ sym (w .id)) (part-to-end p r ∙ sym (w .rest))
 
 -- ---- the sequence
 
--- a number of eight bytes and what follows it are as long as the bytes that they are read from
-eight : (p : List ℕ) (n : ℕ) (rest : List ℕ) → number 8 .read p ≡ item n rest → length p ≡ 8 + length rest
-eight p n rest e =
-    ap length (number 8 .read-is p n rest e .0)
-    ∙ length-append (number 8 .write n) rest
-    ∙ ap (λ (k : ℕ). k + length rest) (length-number 8 n)
+-- a sequence and what follows it are as long as the bytes that they are read from
+seq-length : (p : List ℕ) (n : ℕ) (rest : List ℕ) → number numberSize .read p ≡ item n rest → length p ≡ numberSize + length rest
+seq-length p n rest e =
+    ap length (number numberSize .read-is p n rest e .0)
+    ∙ length-append (number numberSize .write n) rest
+    ∙ ap (λ (k : ℕ). k + length rest) (length-number numberSize n)
 
-pub commit-is : {p : List ℕ} {n : ℕ} → length p ≡ 24 → Stands (number 8) p 16 n 24 → on (commit (take 16 p) n) ≡ asCall (commitOf p)
+pub commit-is : {p : List ℕ} {n : ℕ} → length p ≡ idSize + numberSize → Stands (number numberSize) p idSize n (idSize + numberSize)
+    → on (commit (take idSize p) n) ≡ asCall (commitOf p)
 commit-is {p} {n} e w =
-    let d : drop 24 p ≡ [] = drop-of-length-le p {i = 24} (omega arith) in
-    let r : number 8 .read (drop 16 p) ≡ item n [] = w .reads ∙ ap (item n) d in
-    sym (ap (λ (x : Item ℕ). asCall (withNumber x λ m rest. whenEmpty (commit (take 16 p) m) rest)) r)
+    let d : drop (idSize + numberSize) p ≡ [] = drop-of-length-le p {i = idSize + numberSize} (omega arith) in
+    let r : number numberSize .read (drop idSize p) ≡ item n [] = w .reads ∙ ap (item n) d in
+    sym (ap (λ (x : Item ℕ). asCall (withNumber x λ m rest. whenEmpty (commit (take idSize p) m) rest)) r)
 
-pub commit-none : (p : List ℕ) → (length p ≡ 24 → ⊥) → refusedCall ≡ asCall (commitOf p)
-commit-none p h = go (number 8 .read (drop 16 p)) refl
+pub commit-none : (p : List ℕ) → (length p ≡ idSize + numberSize → ⊥) → refusedCall ≡ asCall (commitOf p)
+commit-none p h = go (number numberSize .read (drop idSize p)) refl
   where
-    go : (x : Item ℕ) → number 8 .read (drop 16 p) ≡ x → refusedCall ≡ asCall (withNumber x λ m rest. whenEmpty (commit (take 16 p) m) rest)
+    go : (x : Item ℕ) → number numberSize .read (drop idSize p) ≡ x → refusedCall ≡ asCall (withNumber x λ m rest. whenEmpty (commit (take idSize p) m) rest)
     go cut e = refl
-    go (item n []) e = let l : length (drop 16 p) ≡ 8 + 0 = eight (drop 16 p) n [] e in absurd (h (omega (arith, l, length-drop 16 p)))
+    go (item n []) e = let l : length (drop idSize p) ≡ numberSize + 0 = seq-length (drop idSize p) n [] e in absurd (h (omega (arith, l, length-drop idSize p)))
     go (item n (b ∷ bs)) e = refl
 
-pub batch-is : {p : List ℕ} {n : ℕ} → Stands (number 8) p 0 n 8 → on (batch n (take (length p - 8) (drop 8 p))) ≡ asCall (batchOf p)
+pub batch-is : {p : List ℕ} {n : ℕ} → Stands (number numberSize) p 0 n numberSize
+    → on (batch n (take (length p - numberSize) (drop numberSize p))) ≡ asCall (batchOf p)
 batch-is {p} {n} w =
-    ap (λ (l : List ℕ). on (batch n l)) (part-to-end p 8)
+    ap (λ (l : List ℕ). on (batch n l)) (part-to-end p numberSize)
     ∙ sym (ap (λ (x : Item ℕ). asCall (withNumber x λ m list. some (batch m list))) (w .reads))
 
-pub batch-none : (p : List ℕ) → length p < 8 → refusedCall ≡ asCall (batchOf p)
-batch-none p h = go (number 8 .read p) refl
+pub batch-none : (p : List ℕ) → length p < numberSize → refusedCall ≡ asCall (batchOf p)
+batch-none p h = go (number numberSize .read p) refl
   where
-    go : (x : Item ℕ) → number 8 .read p ≡ x → refusedCall ≡ asCall (withNumber x λ m list. some (batch m list))
+    go : (x : Item ℕ) → number numberSize .read p ≡ x → refusedCall ≡ asCall (withNumber x λ m list. some (batch m list))
     go cut e = refl
-    go (item n rest) e = absurd (omega (arith, eight p n rest e))
+    go (item n rest) e = absurd (omega (arith, seq-length p n rest e))
 
 -- ---- nothing
 

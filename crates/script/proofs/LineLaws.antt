@@ -8,9 +8,10 @@ use native.Mathlib.Omega.{arith}
 use borrow.Author.Tests.{lt-ltb, le-ltb, ltb-true, ltb-false}
 use lib.Dec.{ltb}
 use lib.ListN.{length, set, take, drop, length-append}
-use lib.Seq.{paste, set-split, append-snoc, length-paste, take-paste, drop-paste, take-length}
+use lib.Seq.{set-split, append-snoc, length-paste, take-paste, drop-paste, take-length}
 use Rattle.moves.proofs.SpliceLaws.{paste-on}
-use Rattle.script.specs.Lines.{decimalIn, decimal, lineOf, stopLine, Put}
+use Rattle.layout.specs.Offsets.{numberSize}
+use Rattle.script.specs.Lines.{decimalIn, decimal, lineOf, stopLine, lineLimit, Put}
 
 -- ---- decimal digits
 
@@ -94,10 +95,10 @@ module _ {s s' text : List ℕ} {at e : ℕ} (p : Put s at text e s') (h : at + 
 pub byte-short : (n : ℕ) → n < 256 → length (decimal n) ≤ 3
 byte-short n h = decimal-short 2 n (omega arith)
 
-pub word-short : (n : ℕ) → n < 18446744073709551616 → length (decimal n) ≤ 20
+pub word-short : (n : ℕ) → n < 256 ^ numberSize → length (decimal n) ≤ 20
 word-short n h = decimal-short 19 n (omega arith)
 
-pub put-answer : {s s1 s2 s3 s4 : List ℕ} {at st v a b c e : ℕ} → at + 26 ≤ length s → st < 256 → v < 18446744073709551616
+pub put-answer : {s s1 s2 s3 s4 : List ℕ} {at st v a b c e : ℕ} → at + lineLimit ≤ length s → st < 256 → v < 256 ^ numberSize
     → Put s at (decimal st) a s1 → Put s1 a (32 ∷ []) b s2 → Put s2 b (decimal v) c s3 → Put s3 c (10 ∷ []) e s4
     → Put s at (lineOf st v) e s4
 put-answer {s} {s1} {s2} {s3} {s4} {at} {st} {v} {a} {b} {c} {e} r h k p q u w =
@@ -108,7 +109,7 @@ put-answer {s} {s1} {s2} {s3} {s4} {at} {st} {v} {a} {b} {c} {e} r h k p q u w =
     let z : length (lineOf st v) ≡ length (decimal st ++ (32 ∷ []) ++ decimal v) + 1 = length-append (decimal st ++ (32 ∷ []) ++ decimal v) (10 ∷ []) in
     put-on (put-on (put-on p q (omega (arith, i, x))) u (omega (arith, i, j, x, y))) w (omega (arith, i, j, x, y, z))
 
-pub put-end : {s s5 s6 s7 : List ℕ} {at n m c e : ℕ} → at + 26 ≤ length s → n < 18446744073709551616
+pub put-end : {s s5 s6 s7 : List ℕ} {at n m c e : ℕ} → at + lineLimit ≤ length s → n < 256 ^ numberSize
     → Put s at (115 ∷ 116 ∷ 111 ∷ 112 ∷ 32 ∷ []) m s5 → Put s5 m (decimal n) c s6 → Put s6 c (10 ∷ []) e s7 → Put s at (stopLine n) e s7
 put-end {s} {s5} {s6} {s7} {at} {n} {m} {c} {e} r k p u w =
     let j = word-short n k in
@@ -116,13 +117,13 @@ put-end {s} {s5} {s6} {s7} {at} {n} {m} {c} {e} r k p u w =
     let z : length (stopLine n) ≡ 5 + length (decimal n) + 1 = length-append ((115 ∷ 116 ∷ 111 ∷ 112 ∷ 32 ∷ []) ++ decimal n) (10 ∷ []) ∙ ap (λ (k : ℕ). k + 1) y in
     put-on (put-on p u (omega (arith, j, y))) w (omega (arith, j, z))
 
-pub put-word : {s s1 s2 s3 s4 s5 : List ℕ} {at a b c d m : ℕ} → at + 26 ≤ length s
+pub put-word : {s s1 s2 s3 s4 s5 : List ℕ} {at a b c d m : ℕ} → at + lineLimit ≤ length s
     → Put s at (115 ∷ []) a s1 → Put s1 a (116 ∷ []) b s2 → Put s2 b (111 ∷ []) c s3 → Put s3 c (112 ∷ []) d s4 → Put s4 d (32 ∷ []) m s5
     → Put s at (115 ∷ 116 ∷ 111 ∷ 112 ∷ 32 ∷ []) m s5
 put-word r p q u v w = put-on (put-on (put-on (put-on p q (omega arith)) u (omega arith)) v (omega arith)) w (omega arith)
 
 -- how long the lines are at most
-pub answer-short : (st v : ℕ) → st < 256 → v < 18446744073709551616 → length (lineOf st v) ≤ 26
+pub answer-short : (st v : ℕ) → st < 256 → v < 256 ^ numberSize → length (lineOf st v) ≤ lineLimit
 answer-short st v h k =
     let i = byte-short st h in
     let j = word-short v k in
@@ -131,7 +132,7 @@ answer-short st v h k =
     let z = length-append (decimal st ++ (32 ∷ []) ++ decimal v) (10 ∷ []) in
     omega (arith, i, j, x, y, z)
 
-pub stop-short : (n : ℕ) → n < 18446744073709551616 → length (stopLine n) ≤ 26
+pub stop-short : (n : ℕ) → n < 256 ^ numberSize → length (stopLine n) ≤ lineLimit
 stop-short n k =
     let j = word-short n k in
     let y = length-append (decimal n) (10 ∷ []) in

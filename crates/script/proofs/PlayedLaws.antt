@@ -6,7 +6,7 @@ use mathlib.Core.List.{List, _++_, append-assoc, append-nil}
 use native.Mathlib.Omega.{arith}
 use lib.ListN.{length, take, drop, length-append, length-drop}
 use Rattle.moves.proofs.SpliceLaws.{drop-take, later}
-use Rattle.script.specs.Lines.{lineOf, Put}
+use Rattle.script.specs.Lines.{lineOf, lineLimit, Put}
 use Rattle.script.proofs.LineLaws.{put-front, put-behind, put-size}
 use Rattle.script.specs.Stream.{next, whole, isWhole}
 use Rattle.script.specs.Records.{WholeAt}
@@ -22,7 +22,7 @@ fed-none room bs out = record { inside = omega arith; fits = omega arith; played
 -- one record more
 pub fed-on : {room bs out room1 out1 room2 out2 : List ℕ} {at put tag from to status value put2 : ℕ} → FedTo room bs out at put room1 out1
     → WholeAt bs at tag from to → Served room1 (called tag (take (to - from) (drop from bs))) status value room2 → Put out1 put (lineOf status value) put2 out2
-    → length (lineOf status value) ≤ 26 → put + 26 ≤ length out1 → FedTo room bs out to put2 room2 out2
+    → length (lineOf status value) ≤ lineLimit → put + lineLimit ≤ length out1 → FedTo room bs out to put2 room2 out2
 fed-on {room} {bs} {out} {room1} {out1} {room2} {out2} {at} {put} {tag} {from} {to} {status} {value} {put2} f w s p short fits =
     record {
       inside = w .inside;

@@ -1,5 +1,5 @@
 -- What has been decided of the front of some bytes stays, whatever bytes come behind them.
-use Prim.Native.Nat.{ℕ, _+_, _*_, _≤_}
+use Prim.Native.Nat.{ℕ, _≤_}
 use mathlib.Core.Path.{_≡_, refl, sym, ap, _∙_}
 use mathlib.Core.Bool.{Bool, true, false, cond, false≢true}
 use mathlib.Core.List.{List, [], _∷_, _++_}
@@ -8,6 +8,7 @@ use borrow.Author.Tests.{le-leb, leb-true}
 use lib.Dec.{leb}
 use lib.ListN.{length, take, drop, length-append, length-drop}
 use lib.Seq.{take-append-le, drop-append-le}
+use Rattle.fields.specs.Fields.{sizeOf}
 use Rattle.script.proofs.RecordLaws.{sized, next-headed, next-unknown}
 use Rattle.script.specs.Stream.{Next, whole, more, stop, known, next, payloadLimit}
 
@@ -49,8 +50,8 @@ stays c (t ∷ h ∷ l ∷ bs) d =
     let e = next-headed t h l bs in
     next-headed t h l (bs ++ c) ∙ go (known t) (ap decided (sym e) ∙ d) ∙ ap (behind c) (sym e)
   where
-    go : (b : Bool) → decided (cond b (sized t (h * 256 + l) bs) stop) ≡ true → cond b (sized t (h * 256 + l) (bs ++ c)) stop ≡ behind c (cond b (sized t (h * 256 + l) bs) stop)
-    go true d = sized-stays c t (h * 256 + l) bs d
+    go : (b : Bool) → decided (cond b (sized t (sizeOf h l) bs) stop) ≡ true → cond b (sized t (sizeOf h l) (bs ++ c)) stop ≡ behind c (cond b (sized t (sizeOf h l) bs) stop)
+    go true d = sized-stays c t (sizeOf h l) bs d
     go false d = refl
 
 pub whole-stays : (bs c : List ℕ) {p rest : List ℕ} {tag : ℕ} → next bs ≡ whole tag p rest → next (bs ++ c) ≡ whole tag p (rest ++ c)
@@ -77,13 +78,13 @@ shrinks (t ∷ h ∷ []) = go (known t)
     go : (b : Bool) → length (after (cond b more stop)) ≤ 2
     go true = omega arith
     go false = omega arith
-shrinks (t ∷ h ∷ l ∷ bs) = rw (next-headed t h l bs) (go (known t) (leb (h * 256 + l) payloadLimit) (leb (h * 256 + l) (length bs)))
+shrinks (t ∷ h ∷ l ∷ bs) = rw (next-headed t h l bs) (go (known t) (leb (sizeOf h l) payloadLimit) (leb (sizeOf h l) (length bs)))
   where
-    go : (u v w : Bool) → length (after (cond u (cond v (cond w (whole t (take (h * 256 + l) bs) (drop (h * 256 + l) bs)) more) stop) stop)) ≤ length (t ∷ h ∷ l ∷ bs)
+    go : (u v w : Bool) → length (after (cond u (cond v (cond w (whole t (take (sizeOf h l) bs) (drop (sizeOf h l) bs)) more) stop) stop)) ≤ length (t ∷ h ∷ l ∷ bs)
     go false v w = omega arith
     go true false w = omega arith
     go true true false = omega arith
-    go true true true = omega (arith, length-drop (h * 256 + l) bs)
+    go true true true = omega (arith, length-drop (sizeOf h l) bs)
 
 pub whole-shrinks : (bs : List ℕ) {p rest : List ℕ} {tag : ℕ} → next bs ≡ whole tag p rest → length rest ≤ length bs
 whole-shrinks bs e = omega (arith, shrinks bs, ap (λ (n : Next). length (after n)) e)

@@ -4,6 +4,7 @@ use mathlib.Core.Path.{_≡_}
 use mathlib.Core.Bool.{false}
 use mathlib.Core.List.{List, [], _∷_, _++_}
 use lib.ListN.{length, take, drop}
+use Rattle.fields.specs.Fields.{fieldHead}
 use Rattle.script.specs.Lines.{lineOf, stopLine, lineLimit}
 use Rattle.script.specs.Stream.{next, whole, isWhole}
 use Rattle.script.specs.Records.{MoreAt, StopAt}
@@ -41,8 +42,8 @@ pub record FedTo (room bs out : List ℕ) (at put : ℕ) (room' out' : List ℕ)
   pub played : Played room bs (take put out') (drop at bs) room'
   pub kept : drop put out' ≡ drop put out
   pub size : length out' ≡ length out
-  -- a record has three bytes or more, a line `lineLimit` or fewer
-  pub rate : 3 * put ≤ lineLimit * at
+  -- a record has `fieldHead` bytes or more, a line `lineLimit` or fewer
+  pub rate : fieldHead * put ≤ lineLimit * at
 
 -- feeding ends at a record that is not whole yet, at one that ends the run, or where there is no place for the longest line
 abbrev pub EndsAt : List ℕ → List ℕ → ℕ → ℕ → End → Type 0

@@ -8,9 +8,11 @@ use lib.Dec.{eqb}
 use lib.ListN.{length, take, drop}
 use Rattle.codec.specs.Codec.{Item, item, cut}
 use Rattle.codec.specs.Formats.{number}
+use Rattle.machine.specs.declared.Which.{Which}
 use Rattle.machine.specs.declared.Which.the-variants.{Writes, Reads}
 use Rattle.machine.specs.State.{idSize}
 use Rattle.machine.specs.Calls.{Op, begin, trackKeys, trackRange, check, commit, batch, dropTxn, minimum, Call, on}
+use Rattle.layout.specs.Offsets.{numberSize}
 
 -- what a number and the bytes that follow it make, if there is one
 abbrev pub withNumber : Item ℕ → (ℕ → List ℕ → Option Op) → Option Op
@@ -21,13 +23,17 @@ abbrev pub whenEmpty : Op → List ℕ → Option Op
 whenEmpty op [] = some op
 whenEmpty op (b ∷ bs) = none
 
+-- "02 writes and 03 reads (id, list)"
+abbrev pub keysOf : Which → List ℕ → Op
+keysOf which p = trackKeys which (take idSize p) (drop idSize p)
+
 -- "06 commit (id, sequence of eight big-endian bytes)"
 abbrev pub commitOf : List ℕ → Option Op
-commitOf p = withNumber (number 8 .read (drop idSize p)) λ n rest. whenEmpty (commit (take idSize p) n) rest
+commitOf p = withNumber (number numberSize .read (drop idSize p)) λ n rest. whenEmpty (commit (take idSize p) n) rest
 
 -- "07 batch (sequence, list)"
 abbrev pub batchOf : List ℕ → Option Op
-batchOf p = withNumber (number 8 .read p) λ n list. some (batch n list)
+batchOf p = withNumber (number numberSize .read p) λ n list. some (batch n list)
 
 -- "01 begin (id), 02 writes and 03 reads (id, list), 04 range (id, bounds), 05 check (id), .. 08 drop (id), 09 minimum
 -- (nothing). Ids and sequences stand raw."; an id that is not 16 bytes is the machine's to refuse, and there is no call where a
@@ -35,8 +41,8 @@ batchOf p = withNumber (number 8 .read p) λ n list. some (batch n list)
 abbrev pub callOf : ℕ → List ℕ → Option Op
 callOf tag p =
     cond (eqb tag 0x01) (some (begin p))
-    (cond (eqb tag 0x02) (some (trackKeys Writes (take idSize p) (drop idSize p)))
-    (cond (eqb tag 0x03) (some (trackKeys Reads (take idSize p) (drop idSize p)))
+    (cond (eqb tag 0x02) (some (keysOf Writes p))
+    (cond (eqb tag 0x03) (some (keysOf Reads p))
     (cond (eqb tag 0x04) (some (trackRange (take idSize p) (drop idSize p)))
     (cond (eqb tag 0x05) (some (check p))
     (cond (eqb tag 0x06) (commitOf p)

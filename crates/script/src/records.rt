@@ -1,7 +1,7 @@
 // Records, as their bytes arrive.
 ghost use mathlib.Core.Path.{_≡_};
 ghost use Prim.Native.Nat.{_<_};
-ghost use Rattle.script.specs.Records.{NextIs};
+ghost use Rattle.script.specs.Records.{NextRecordIs};
 use fields::FIELD_HEAD;
 
 pub const PAYLOAD_LIMIT: usize = 32768;
@@ -25,7 +25,7 @@ fn wide(x: u8) -> usize
 
 // A head is refused as soon as its bytes say so, however few have come.
 pub fn next_record(bytes: &[u8], at: usize) -> Next
-    ensures { λ r. ⌜ NextIs (now (bytes .entry)) at r ⌝ }
+    ensures { λ r. ⌜ NextRecordIs (now (bytes .entry)) at r ⌝ }
 {
     if bytes.len() <= at {
         return Next::More;

@@ -1,9 +1,12 @@
 // A whole record served on a room.
+ghost use Rattle.machine.specs.Calls.{on};
 ghost use Rattle.layout.specs.Rooms.{Served};
-ghost use Rattle.script.specs.Script.{called, refusedCall, IdEnds};
+ghost use Rattle.script.specs.Script.{keysOf, called, refusedCall, IdEnds};
 use answers::Answer;
 use codec::numbers::read_eight;
 use layout::ID;
+use layout::NUMBER;
+use machine::Which;
 use manager::transaction_manager::check_has_conflict;
 use manager::transaction_manager::drop_txn;
 use manager::transaction_manager::min_active_seq;
@@ -14,16 +17,13 @@ use manager::transaction_manager::track_recent_committed_txn;
 use manager::transaction_manager::track_recent_committed_write_batch;
 use manager::transaction_manager::track_write_keys;
 
-// A sequence takes this many bytes.
-const SEQ: usize = 8;
-
 pub fn serve_record(room: &mut [u8], tag: u8, payload: &[u8]) -> Answer
     ensures { λ r. ⌜ Served (now (room .entry)) (called tag (now (payload .entry))) (r .status) (r .value) (now (room .exit)) ⌝ }
 {
     match tag {
         0x01 => new_transaction(room, payload),
-        0x02 => serve_writes(room, payload),
-        0x03 => serve_reads(room, payload),
+        0x02 => serve_keys(room, Which::Writes, payload),
+        0x03 => serve_keys(room, Which::Reads, payload),
         0x04 => serve_range(room, payload),
         0x05 => check_has_conflict(room, payload),
         0x06 => serve_commit(room, payload),
@@ -51,18 +51,15 @@ fn id_end(payload: &[u8]) -> usize
     ID
 }
 
-fn serve_writes(room: &mut [u8], payload: &[u8]) -> Answer
-    ensures { λ r. ⌜ Served (now (room .entry)) (called 2 (now (payload .entry))) (r .status) (r .value) (now (room .exit)) ⌝ }
+// The keys of one of the two sets.
+fn serve_keys(room: &mut [u8], which: Which, payload: &[u8]) -> Answer
+    ensures { λ r. ⌜ Served (now (room .entry)) (on (keysOf which (now (payload .entry)))) (r .status) (r .value) (now (room .exit)) ⌝ }
 {
     let end = id_end(payload);
-    track_write_keys(room, &payload[0..end], &payload[end..])
-}
-
-fn serve_reads(room: &mut [u8], payload: &[u8]) -> Answer
-    ensures { λ r. ⌜ Served (now (room .entry)) (called 3 (now (payload .entry))) (r .status) (r .value) (now (room .exit)) ⌝ }
-{
-    let end = id_end(payload);
-    track_read_keys(room, &payload[0..end], &payload[end..])
+    match which {
+        Which::Writes => track_write_keys(room, &payload[0..end], &payload[end..]),
+        Which::Reads => track_read_keys(room, &payload[0..end], &payload[end..]),
+    }
 }
 
 fn serve_range(room: &mut [u8], payload: &[u8]) -> Answer
@@ -75,7 +72,7 @@ fn serve_range(room: &mut [u8], payload: &[u8]) -> Answer
 fn serve_commit(room: &mut [u8], payload: &[u8]) -> Answer
     ensures { λ r. ⌜ Served (now (room .entry)) (called 6 (now (payload .entry))) (r .status) (r .value) (now (room .exit)) ⌝ }
 {
-    if payload.len() != ID + SEQ {
+    if payload.len() != ID + NUMBER {
         return refuse(room, payload);
     }
     let seq = read_eight(payload, ID);
@@ -85,11 +82,11 @@ fn serve_commit(room: &mut [u8], payload: &[u8]) -> Answer
 fn serve_batch(room: &mut [u8], payload: &[u8]) -> Answer
     ensures { λ r. ⌜ Served (now (room .entry)) (called 7 (now (payload .entry))) (r .status) (r .value) (now (room .exit)) ⌝ }
 {
-    if payload.len() < SEQ {
+    if payload.len() < NUMBER {
         return refuse(room, payload);
     }
     let seq = read_eight(payload, 0);
-    track_recent_committed_write_batch(room, &payload[SEQ..], seq)
+    track_recent_committed_write_batch(room, &payload[NUMBER..], seq)
 }
 
 fn serve_minimum(room: &[u8], payload: &[u8]) -> Answer

@@ -1,5 +1,5 @@
 // Check's search through a room that is known to hold a state.
-ghost use Rattle.machine.specs.State.{base};
+ghost use Rattle.layout.specs.Offsets.{anyLength};
 ghost use Rattle.layout.specs.Records.{entryForm, txnForm};
 ghost use Rattle.layout.specs.Rows.{Here, Rows};
 ghost use Rattle.search.specs.Search.{Searched};
@@ -16,8 +16,8 @@ pub mod marks;
 
 // Whether one of the entries at a place is later than the start of the transaction at another and wrote a key that it tracks.
 pub fn conflicts(room: &[u8], at: usize, entries: usize, txn: usize) -> bool
-    requires { ⌜ Rows (entryForm (base .key)) (now room) at entries ⌝ }
-    requires { ⌜ Here (txnForm (base .key)) (now room) txn ⌝ }
+    requires { ⌜ Rows (entryForm anyLength) (now room) at entries ⌝ }
+    requires { ⌜ Here (txnForm anyLength) (now room) txn ⌝ }
     ensures { λ r. ⌜ Searched (now (room .entry)) at entries txn r ⌝ }
 {
     let start = read_eight(room, txn + START);

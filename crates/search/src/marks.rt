@@ -1,7 +1,7 @@
 // A place among the marks of a transaction.
 ghost use mathlib.Core.Path.{_≡_};
 ghost use lib.Dec.{eqb};
-ghost use Rattle.machine.specs.State.{base};
+ghost use Rattle.layout.specs.Offsets.{anyLength};
 ghost use Rattle.layout.specs.Records.{txnForm};
 ghost use Rattle.layout.specs.Rows.{Here};
 ghost use Rattle.search.specs.Search.{marksLeft, Stays, MarksAt, Nexts, Meets};
@@ -21,7 +21,7 @@ pub struct Marks {
 impl Marks {
     // Before the marks of the transaction at a place.
     pub fn of(room: &[u8], txn: usize) -> Self
-        requires { ⌜ Here (txnForm (base .key)) (now room) txn ⌝ }
+        requires { ⌜ Here (txnForm anyLength) (now room) txn ⌝ }
         ensures { λ r. ⌜ MarksAt (now (room .entry)) txn r ⌝ }
     {
         let at = txn + WRITES;

@@ -5,7 +5,7 @@ use mathlib.Core.List.{List, _++_, append-assoc}
 use mathlib.Core.Option.{none, Option·some-injective}
 use native.Mathlib.Omega.{arith}
 use native.Mathlib.Nat.{le-refl}
-use lib.ListN.{length, take, drop, length-drop, replicate, length-replicate}
+use lib.ListN.{length, take, drop, length-drop}
 use lib.Seq.{paste, length-paste, take-length, drop-at, length-take-le}
 use Rattle.machine.specs.State.{Bytes, base, setBytes}
 use Rattle.machine.specs.Sets.{insertAll}
@@ -15,10 +15,10 @@ use Rattle.codec.specs.Formats.{number, bind, via, run}
 use Rattle.codec.specs.Stands.{Stands}
 use Rattle.moves.specs.Splices.{Spliced, usedAfter}
 use Rattle.moves.proofs.SpliceLaws.{drop-take}
-use Rattle.layout.specs.Offsets.{countSize, lengthSize}
+use Rattle.layout.specs.Offsets.{countSize, lengthSize, anyLength}
 use Rattle.layout.specs.Keys.{setForm, listForm, below}
-use Rattle.layout.specs.Rows.{Part, Row, Ends}
-use Rattle.layout.proofs.PartLaws.{part-one, part-ok, part-end, number-read-is}
+use Rattle.layout.specs.Rows.{Fills, Row, Ends}
+use Rattle.layout.proofs.FillLaws.{fills-one, fills-ok, fills-end, number-read-is}
 use Rattle.layout.proofs.RowLaws.{row-slice, row-of}
 use Rattle.layout.proofs.OpenLaws.{OpenList, open-set}
 use Rattle.layout.proofs.SizeLaws.{keys-length, set-length}
@@ -26,7 +26,8 @@ use Rattle.tracks.specs.Sets.{Key}
 use Rattle.tracks.specs.declared.drafts.Drafted.{Drafted}
 use Rattle.tracks.specs.Drafts.{setSize, Begun, SetStands, DraftedIs}
 use Rattle.tracks.specs.declared.Grown.{Grown}
-use Rattle.tracks.specs.Tracks.{Growable, Outcome, GrownIs}
+use Rattle.tracks.proofs.DraftLaws.{zeros, zeros-long}
+use Rattle.tracks.specs.Tracks.{Growable, GrownOutcome, GrownIs}
 
 -- some bytes stand behind the first two of a draft
 pub record Copied (d src : Bytes) : Type 0 where
@@ -44,20 +45,20 @@ copied-to d0 d src z h e =
       is = ap (drop countSize) f ∙ drop-at (take countSize d0) (src ++ rest) countSize (length-take-le countSize d0 (omega arith));
     }
 
-in-order : {s : Bytes} {at e : ℕ} (ks : List Bytes) → Part (setForm (base .key)) s at ks e → RunOk Key below none ks
+in-order : {s : Bytes} {at e : ℕ} (ks : List Bytes) → Fills (setForm anyLength) s at ks e → RunOk Key below none ks
 unfolding setForm listForm via bind run
-in-order ks p = part-ok (setForm (base .key)) p .1 .0
+in-order ks p = fills-ok (setForm anyLength) p .1 .0
 
 module _ {s list : Bytes} {used at marks bytes : ℕ} (g : Growable s used at list marks bytes) where
   opened : OpenList Key below s at (g .ks) (g .end)
-  opened = open-set (base .key) (g .part)
+  opened = open-set anyLength (g .fills)
 
   pub head-inside : at + countSize ≤ length s
   head-inside = opened .count-at .inside
 
-  module _ {e : ℕ} (x : Ends (setForm (base .key)) s at e) where
+  module _ {e : ℕ} (x : Ends (setForm anyLength) s at e) where
     ends-there : e ≡ g .end
-    ends-there = x .is (g .ks) (g .end) (g .part)
+    ends-there = x .is (g .ks) (g .end) (g .fills)
 
     -- where the set stands
     pub record Inside : Type 0 where
@@ -69,7 +70,7 @@ module _ {s list : Bytes} {used at marks bytes : ℕ} (g : Growable s used at li
 
     pub set-inside : Inside
     set-inside =
-        let l : e ≡ at + (countSize + lengthSize * length (g .ks) + setBytes (g .ks)) = ends-there ∙ part-end (setForm (base .key)) (g .part) ∙ rw (set-length (base .key) (g .ks)) in
+        let l : e ≡ at + (countSize + lengthSize * length (g .ks) + setBytes (g .ks)) = ends-there ∙ fills-end (setForm anyLength) (g .fills) ∙ rw (set-length anyLength (g .ks)) in
         record {
           size = l;
           keys = omega (arith, l);
@@ -86,16 +87,16 @@ module _ {s list : Bytes} {used at marks bytes : ℕ} (g : Growable s used at li
     lent-keys = sym (drop-take (at + countSize) e s) ∙ rw ends-there (row-slice Key s (at + countSize) (g .ks) (g .end) (opened .row))
 
     lent-length : length lent ≡ e - (at + countSize)
-    lent-length = ap length lent-keys ∙ keys-length (base .key) (g .ks) ∙ sym (set-inside .keys)
+    lent-length = ap length lent-keys ∙ keys-length anyLength (g .ks) ∙ sym (set-inside .keys)
 
     draft-room : countSize + length lent ≤ setSize
     draft-room = omega (arith, lent-length, set-inside .few)
 
-    pub fits-draft : countSize + length lent ≤ length (replicate {A = ℕ} setSize 0)
-    fits-draft = let z : length (replicate {A = ℕ} setSize 0) ≡ setSize = length-replicate {A = ℕ} setSize 0 in rw z draft-room
+    pub fits-draft : countSize + length lent ≤ length zeros
+    fits-draft = omega (arith, draft-room, zeros-long)
 
-    pub copied : (d : Bytes) → d ≡ paste (replicate setSize 0) countSize lent (length lent) → Copied d lent
-    copied d c = copied-to (replicate setSize 0) d lent (length-replicate {A = ℕ} setSize 0) draft-room c
+    pub copied : (d : Bytes) → d ≡ paste zeros countSize lent (length lent) → Copied d lent
+    copied d c = copied-to zeros d lent zeros-long draft-room c
 
     module _ {n : ℕ} (q : Stands (number countSize) s at n (at + countSize)) {d1 : Bytes} (c : Copied d1 lent) where
       count-is : n ≡ length (g .ks)
@@ -105,7 +106,7 @@ module _ {s list : Bytes} {used at marks bytes : ℕ} (g : Growable s used at li
       draft-row =
           let f : drop countSize d1 ≡ writeRun Key (g .ks) ++ c .rest = c .is ∙ ap (λ (x : Bytes). x ++ c .rest) lent-keys in
           let l : 0 + length (writeRun Key (g .ks)) ≡ e - (at + countSize) = omega (arith, ap length lent-keys, lent-length) in
-          subst (Row Key (drop countSize d1) 0 (g .ks)) l (row-of Key below none (drop countSize d1) 0 (g .ks) (c .rest) (in-order (g .ks) (g .part)) (omega arith) f)
+          subst (Row Key (drop countSize d1) 0 (g .ks)) l (row-of Key below none (drop countSize d1) 0 (g .ks) (c .rest) (in-order (g .ks) (g .fills)) (omega arith) f)
 
       pub begun : Begun d1 (e - (at + countSize)) n list marks bytes
       begun =
@@ -124,10 +125,10 @@ module _ {s list : Bytes} {used at marks bytes : ℕ} (g : Growable s used at li
           }
 
       -- what holds of this set and these keys holds of all that the bytes can be read as
-      for-every : {s' : Bytes} {r : Grown} → Outcome s used at (g .ks) e (insertAll (g .keys) (g .ks)) marks bytes s' r → GrownIs s used at list marks bytes s' r
-      for-every {s'} {r} o = record { is = λ ks keys f p l. moved ks keys f (part-one (setForm (base .key)) (g .part) p) (Option·some-injective (g .keys) keys (sym (g .listed) ∙ l)) }
+      for-every : {s' : Bytes} {r : Grown} → GrownOutcome s used at (g .ks) e (insertAll (g .keys) (g .ks)) marks bytes s' r → GrownIs s used at list marks bytes s' r
+      for-every {s'} {r} o = record { is = λ ks keys f p l. moved ks keys f (fills-one (setForm anyLength) (g .fills) p) (Option·some-injective (g .keys) keys (sym (g .listed) ∙ l)) }
         where
-          moved : (ks keys : List Bytes) (f : ℕ) → (g .ks ≡ ks) × (g .end ≡ f) → g .keys ≡ keys → Outcome s used at ks f (insertAll keys ks) marks bytes s' r
+          moved : (ks keys : List Bytes) (f : ℕ) → (g .ks ≡ ks) × (g .end ≡ f) → g .keys ≡ keys → GrownOutcome s used at ks f (insertAll keys ks) marks bytes s' r
           moved ks keys f a b = rw (← a .0, ← b, ← a .1, ← ends-there) o
 
       pub not-grown : {d2 : Bytes} → DraftedIs d1 (e - (at + countSize)) n list marks bytes d2 Drafted.Full → GrownIs s used at list marks bytes s Grown.Full
@@ -137,7 +138,7 @@ module _ {s list : Bytes} {used at marks bytes : ℕ} (g : Growable s used at li
         drafted : SetStands d2 (g .ks) (insertAll (g .keys) (g .ks)) marks bytes m k
         drafted = d .is (g .ks) (g .keys) draft-row (sym count-is) (g .listed)
 
-        record-is : take (m - 0) d2 ≡ setForm (base .key) .write (insertAll (g .keys) (g .ks))
+        record-is : take (m - 0) d2 ≡ setForm anyLength .write (insertAll (g .keys) (g .ks))
         record-is = let z : m - 0 ≡ m = omega arith in rw z (drafted .whole)
 
         pub in-draft : m ≤ length d2
@@ -148,7 +149,7 @@ module _ {s list : Bytes} {used at marks bytes : ℕ} (g : Growable s used at li
 
         pub can-put : (at + (e - at) ≤ used) × (used ≤ length s) × (usedAfter used (e - at) (take (m - 0) d2) ≤ length s)
         can-put =
-            let l : length (take (m - 0) d2) ≡ countSize + lengthSize * length (insertAll (g .keys) (g .ks)) + setBytes (insertAll (g .keys) (g .ks)) = ap length record-is ∙ set-length (base .key) (insertAll (g .keys) (g .ks)) in
+            let l : length (take (m - 0) d2) ≡ countSize + lengthSize * length (insertAll (g .keys) (g .ks)) + setBytes (insertAll (g .keys) (g .ks)) = ap length record-is ∙ set-length anyLength (insertAll (g .keys) (g .ks)) in
             (omega (arith, set-inside .size, set-inside .within), omega (arith, g .space), omega (arith, l, set-inside .size, set-inside .within, drafted .few, drafted .small, g .space))
 
         pub grown : {s' : Bytes} → Spliced s used at (e - at) (take (m - 0) d2) s' → GrownIs s used at list marks bytes s' (Grown.New (k - n))

@@ -1,7 +1,7 @@
 -- The keys of a list are added to a set, one at a time.
 use Prim.Native.Nat.{ℕ, _+_, _-_, _≤_, _<_}
 use mathlib.Core.Path.{_≡_, refl, sym, ap, _∙_}
-use mathlib.Core.Bool.{Bool, true, false, false≢true, _&&_}
+use mathlib.Core.Bool.{true, and-eq-true-iff}
 use mathlib.Core.List.{List, [], _∷_}
 use mathlib.Core.Logic.{_⊎_, ⊎-map}
 use mathlib.Core.Option.{Option, none, some, Option·none-ne-some, Option·some-injective}
@@ -10,22 +10,24 @@ use borrow.Author.Tests.{leb-true}
 use lib.Dec.{leb}
 use lib.ListN.{length, drop, getD}
 use lib.Seq.{slice}
-use Rattle.fields.specs.Fields.{before, asKey, keyList}
+use Rattle.fields.specs.Fields.{before, keyTag, asKey, keyList}
 use Rattle.fields.specs.Forms.{ItemAt, EndAt, NoKeyAt, shortKeys}
 use Rattle.fields.proofs.Lists.{list-nil}
-use Rattle.machine.specs.State.{Bytes, base, setBytes}
+use Rattle.machine.specs.State.{Bytes, setBytes}
 use Rattle.machine.specs.Sets.{insert, insertAll}
 use Rattle.machine.proofs.SetLaws.{insertAll-longer, insertAll-bytes}
-use Rattle.layout.specs.Offsets.{lengthSize}
+use Rattle.layout.specs.Offsets.{lengthSize, anyLength}
 use Rattle.moves.specs.Splices.{Spliced, usedAfter}
 use Rattle.moves.proofs.SpliceLaws.{drop-take}
 use Rattle.layout.specs.Rows.{Row, Rows}
 use Rattle.layout.proofs.RowLaws.{row-inside, row-one}
 use Rattle.layout.proofs.OpenLaws.{open-key}
-use Rattle.tracks.specs.declared.sets.Found.{Found}
+use Rattle.tracks.specs.declared.sets.KeyPlace.{KeyPlace}
 use Rattle.tracks.specs.declared.sets.Inserted.{Inserted}
-use Rattle.tracks.specs.Sets.{Key, Between, FoundIs, Ready, AllStand, InsertedIs}
-use Rattle.tracks.proofs.KeyLaws.{part, key-record, key-ok, key-length, record-length}
+use Rattle.tracks.specs.Sets.{Key, Between, KeyPlaceIs, Ready, AllStand, PassesLimits, InsertedIs}
+use Rattle.tracks.proofs.KeyLaws.{lent, key-record, lent-length}
+use Rattle.layout.proofs.MachineLaws.{key-ok}
+use Rattle.layout.proofs.SizeLaws.{key-length}
 use Rattle.tracks.proofs.PutLaws.{row-put}
 use Rattle.tracks.proofs.TotalLaws.{one-more, bytes-more}
 
@@ -51,13 +53,9 @@ took : (keys : List Bytes) (key : Bytes) (o : Option (List Bytes)) → some keys
 took keys key none e = absurd (Option·none-ne-some keys (sym e))
 took keys key (some more) e = record { more = more; is = Option·some-injective keys (key ∷ more) e; listed = refl }
 
-short-both : (k : Bytes) (ks : List Bytes) → shortKeys (base .key) (k ∷ ks) ≡ true → (length k ≤ base .key) × (shortKeys (base .key) ks ≡ true)
+short-both : (k : Bytes) (ks : List Bytes) → shortKeys anyLength (k ∷ ks) ≡ true → (length k ≤ anyLength) × (shortKeys anyLength ks ≡ true)
 unfolding shortKeys
-short-both k ks e = let b = both (leb (length k) (base .key)) (shortKeys (base .key) ks) e in (leb-true _ _ (b .0), b .1)
-  where
-    both : (a b : Bool) → (a && b) ≡ true → (a ≡ true) × (b ≡ true)
-    both true b h = (refl, h)
-    both false b h = absurd (false≢true h)
+short-both k ks e = let b = and-eq-true-iff (leb (length k) anyLength) (shortKeys anyLength ks) .0 e in (leb-true _ _ (b .0), b .1)
 
 all-first : (k : Bytes) (keys more ks : List Bytes) → keys ≡ k ∷ more → insertAll keys ks ≡ insertAll more (insert k ks)
 unfolding insertAll
@@ -66,7 +64,7 @@ all-first k keys more ks e = rw e
 -- each key takes two bytes or more
 row-long : (s : Bytes) (at : ℕ) (ks : List Bytes) (e : ℕ) → Row Key s at ks e → at + length ks ≤ e
 row-long s at [] e r = omega (arith, r .0)
-row-long s at (k ∷ ks) e r = omega (arith, open-key (base .key) (r .first) .ends, row-long s (r .end) ks e (r .rest))
+row-long s at (k ∷ ks) e r = omega (arith, open-key anyLength (r .first) .ends, row-long s (r .end) ks e (r .rest))
 
 module _ {d₀ : Bytes} {used n : ℕ} {list : Bytes} {marks bytes : ℕ} {d : Bytes} {end held marks' bytes' at : ℕ} (v : Adding d₀ used n list marks bytes d end held marks' bytes' at) where
   pub rows-now : Rows Key d 0 held
@@ -99,17 +97,17 @@ module _ {d₀ : Bytes} {used n : ℕ} {list : Bytes} {marks bytes : ℕ} {d : B
   pub never-bad : NoKeyAt list at → ⊥
   never-bad b = Option·none-ne-some (v .rest .keys) (sym (b .breaks) ∙ v .rest .listed)
 
-  module _ {from to : ℕ} (i : ItemAt keyList list at 0x4b from to (slice from to list)) where
-    now-first : Took (v .rest .keys) (part list from to) (keyList (drop to list))
-    now-first = took (v .rest .keys) (part list from to) (keyList (drop to list)) (sym (v .rest .listed) ∙ i .reads ∙ ap (λ (k : Bytes). before k (keyList (drop to list))) (drop-take from to list))
+  module _ {from to : ℕ} (i : ItemAt keyList list at keyTag from to (slice from to list)) where
+    now-first : Took (v .rest .keys) (lent list from to) (keyList (drop to list))
+    now-first = took (v .rest .keys) (lent list from to) (keyList (drop to list)) (sym (v .rest .listed) ∙ i .reads ∙ ap (λ (k : Bytes). before k (keyList (drop to list))) (drop-take from to list))
 
-    all-now : insertAll (v .rest .keys) (v .rest .ks) ≡ insertAll (now-first .more) (insert (part list from to) (v .rest .ks))
-    all-now = all-first (part list from to) (v .rest .keys) (now-first .more) (v .rest .ks) (now-first .is)
+    all-now : insertAll (v .rest .keys) (v .rest .ks) ≡ insertAll (now-first .more) (insert (lent list from to) (v .rest .ks))
+    all-now = all-first (lent list from to) (v .rest .keys) (now-first .more) (v .rest .ks) (now-first .is)
 
-    short-now : (length (part list from to) ≤ base .key) × (shortKeys (base .key) (now-first .more) ≡ true)
-    short-now = short-both (part list from to) (now-first .more) (ap (shortKeys (base .key)) (sym (now-first .is)) ∙ v .rest .short)
+    short-now : (length (lent list from to) ≤ anyLength) × (shortKeys anyLength (now-first .more) ≡ true)
+    short-now = short-both (lent list from to) (now-first .more) (ap (shortKeys anyLength) (sym (now-first .is)) ∙ v .rest .short)
 
-    pub add-there : FoundIs d held (part list from to) Found.There → Adding d₀ used n list marks bytes d end held marks' bytes' to
+    pub add-there : KeyPlaceIs d held (lent list from to) KeyPlace.There → Adding d₀ used n list marks bytes d end held marks' bytes' to
     add-there f =
         record {
           start = v .start;
@@ -129,28 +127,28 @@ module _ {d₀ : Bytes} {used n : ℕ} {list : Bytes} {marks bytes : ℕ} {d : B
           size = v .size;
         }
 
-    module _ {place : ℕ} (f : FoundIs d held (part list from to) (Found.Before place)) where
-      where-now : Between d (part list from to) place (v .rest .ks) end
+    module _ {place : ℕ} (f : KeyPlaceIs d held (lent list from to) (KeyPlace.Before place)) where
+      where-now : Between d (lent list from to) place (v .rest .ks) end
       where-now = f .is (v .rest .ks) end (v .rest .row) (v .rest .count)
 
-      longer : length (insert (part list from to) (v .rest .ks)) ≡ length (v .rest .ks) + 1
-      longer = ap length (where-now .with-key) ∙ one-more (where-now .less) (part list from to) (where-now .more) ∙ ap (λ (l : List Bytes). length l + 1) (sym (where-now .whole))
+      longer : length (insert (lent list from to) (v .rest .ks)) ≡ length (v .rest .ks) + 1
+      longer = ap length (where-now .with-key) ∙ one-more (where-now .less) (lent list from to) (where-now .more) ∙ ap (λ (l : List Bytes). length l + 1) (sym (where-now .whole))
 
-      larger : setBytes (insert (part list from to) (v .rest .ks)) ≡ setBytes (v .rest .ks) + (to - from)
+      larger : setBytes (insert (lent list from to) (v .rest .ks)) ≡ setBytes (v .rest .ks) + (to - from)
       larger =
           ap setBytes (where-now .with-key)
-          ∙ bytes-more (where-now .less) (part list from to) (where-now .more)
-          ∙ ap (λ (l : List Bytes). setBytes l + length (part list from to)) (sym (where-now .whole))
-          ∙ ap (λ (x : ℕ). setBytes (v .rest .ks) + x) (key-length list from to (i .within))
+          ∙ bytes-more (where-now .less) (lent list from to) (where-now .more)
+          ∙ ap (λ (l : List Bytes). setBytes l + length (lent list from to)) (sym (where-now .whole))
+          ∙ ap (λ (x : ℕ). setBytes (v .rest .ks) + x) (lent-length list from to (i .within))
 
       -- "track that would pass a total": what is added later takes nothing back
       pub full : (marks' ≡ 0) ⊎ (bytes' < to - from) → InsertedIs d₀ used n list marks bytes d Inserted.Full
       full h =
-          let all : List Bytes = insert (part list from to) (v .rest .ks) in
+          let all : List Bytes = insert (lent list from to) (v .rest .ks) in
           record {
             is =
                 for-every
-                (λ ks l. (length ks + marks < length l) ⊎ (setBytes ks + bytes < setBytes l))
+                (λ ks l. PassesLimits ks l marks bytes)
                 (rw all-now
                 (⊎-map
                 (λ z. omega (arith, z, v .few, longer, insertAll-longer (now-first .more) all))
@@ -163,18 +161,18 @@ module _ {d₀ : Bytes} {used n : ℕ} {list : Bytes} {marks bytes : ℕ} {d : B
         pub fits : end + (lengthSize + (to - from)) ≤ length d
         fits = omega (arith, v .rest .space, m)
 
-        pub can-splice : (place + 0 ≤ end) × (end ≤ length d) × (usedAfter end 0 (part list (from - lengthSize) to) ≤ length d)
+        pub can-splice : (place + 0 ≤ end) × (end ≤ length d) × (usedAfter end 0 (lent list (from - lengthSize) to) ≤ length d)
         can-splice =
             let p = row-inside Key d place (where-now .more) end (where-now .after) in
-            (omega (arith, p .0), p .1, omega (arith, fits, key-length list (from - lengthSize) to (i .within), i .begins, i .ends))
+            (omega (arith, p .0), p .1, omega (arith, fits, lent-length list (from - lengthSize) to (i .within), i .begins, i .ends))
 
-        pub add-put : {d' : Bytes} → ((j : ℕ) → getD list j 0 < 256) → Spliced d end place 0 (part list (from - lengthSize) to) d'
+        pub add-put : {d' : Bytes} → ((j : ℕ) → getD list j 0 < 256) → Spliced d end place 0 (lent list (from - lengthSize) to) d'
             → Adding d₀ used n list marks bytes d' (end + (lengthSize + (to - from))) (held + 1) (marks' - 1) (bytes' - (to - from)) to
         add-put {d'} tiny w =
-            let k : Bytes = part list from to in
-            let l : end + length (Key .write k) ≡ end + (lengthSize + (to - from)) = omega (arith, record-length (base .key) k, key-length list from to (i .within)) in
-            let w' : Spliced d end place 0 (Key .write k) d' = rw (key-record (base .key) i tiny) at w in
-            let r = row-put Key d (where-now .less) (where-now .more) k place end d' (where-now .before) (where-now .after) w' (key-ok (base .key) k (short-now .0) (omega arith)) (omega (arith, l, fits)) in
+            let k : Bytes = lent list from to in
+            let l : end + length (Key .write k) ≡ end + (lengthSize + (to - from)) = omega (arith, key-length anyLength k, lent-length list from to (i .within)) in
+            let w' : Spliced d end place 0 (Key .write k) d' = rw (key-record anyLength i tiny) at w in
+            let r = row-put Key d (where-now .less) (where-now .more) k place end d' (where-now .before) (where-now .after) w' (key-ok anyLength k (omega arith) (short-now .0)) (omega (arith, l, fits)) in
             record {
               start = v .start;
               rest =

@@ -1,7 +1,7 @@
 -- The verdict on bounds, from the places of their keys.
 use Prim.Native.Nat.{ℕ, _+_, _-_, _≤_, _<_}
-use mathlib.Core.Path.{_≡_, refl, sym, ap, _∙_}
-use mathlib.Core.Bool.{Bool, true, false, cond, _&&_}
+use mathlib.Core.Path.{_≡_, sym, ap, _∙_}
+use mathlib.Core.Bool.{Bool, true, false, cond, and-eq-true-iff}
 use mathlib.Core.Logic.{_⊎_, inl, inr}
 use native.Mathlib.Omega.{arith}
 use borrow.Author.Tests.{le-leb, leb-true}
@@ -18,9 +18,10 @@ use Rattle.ranges.specs.Made.{keyOf}
 use Rattle.fields.specs.declared.BoundPlaces.{BoundPlaces}
 use Rattle.fields.specs.Fields.{boundsOf}
 use Rattle.fields.specs.Forms.{BoundsAt, NoBoundsIn}
-use Rattle.machine.specs.State.{Bytes, base, rangeBytes}
+use Rattle.machine.specs.State.{Bytes, rangeBytes}
 use Rattle.machine.specs.Serve.{shortRange}
 use Rattle.moves.proofs.SpliceLaws.{drop-take}
+use Rattle.layout.specs.Offsets.{markSize, anyLength}
 use Rattle.layout.proofs.SizeLaws.{range-length}
 use Rattle.answers.proofs.StateLaws.{not-true}
 use Rattle.tracks.specs.declared.range.Judged.{Judged}
@@ -37,12 +38,8 @@ both-short : (n : ℕ) (r : Range) → length (keyOf (r .start)) ≤ n → lengt
 both-short n r a b = rw (le-leb _ _ a, le-leb _ _ b)
 
 one-long : (n : ℕ) (r : Range) → (n < length (keyOf (r .start))) ⊎ (n < length (keyOf (r .end))) → shortRange n r ≡ false
-one-long n r h = not-true (shortRange n r) (λ e. no h (both (leb (length (keyOf (r .start))) n) (leb (length (keyOf (r .end))) n) e))
+one-long n r h = not-true (shortRange n r) (λ e. no h (and-eq-true-iff (leb (length (keyOf (r .start))) n) (leb (length (keyOf (r .end))) n) .0 e))
   where
-    both : (a b : Bool) → (a && b) ≡ true → (a ≡ true) × (b ≡ true)
-    both true b e = (refl, e)
-    both false b e = absurd (let z : _≡_ {A = ℕ} 0 1 = cc in omega arith)
-
     no : (n < length (keyOf (r .start))) ⊎ (n < length (keyOf (r .end))) → (leb (length (keyOf (r .start))) n ≡ true) × (leb (length (keyOf (r .end))) n ≡ true) → ⊥
     no (inl a) e = omega (arith, a, leb-true (length (keyOf (r .start))) n (e .0))
     no (inr a) e = omega (arith, a, leb-true (length (keyOf (r .end))) n (e .1))
@@ -73,7 +70,7 @@ module _ {bs : Bytes} {p : BoundPlaces} (b : BoundsAt bs p) where
   module _ (small : (i : ℕ) → getD bs i 0 < 256) where
     sizes : (length (keyOf (said .start)) ≡ p .«start_to» - p .«start_from») × (length (keyOf (said .end)) ≡ p .«end_to» - p .«end_from»)
     sizes =
-        let l : length bs ≡ 6 + rangeBytes said = ap length (bounds-record (base .key) bs said small (b .reads)) ∙ range-length (base .key) said in
+        let l : length bs ≡ markSize + rangeBytes said = ap length (bounds-record anyLength bs said small (b .reads)) ∙ range-length anyLength said in
         let x = key-most (p .start) (slice (p .«start_from») (p .«start_to») bs) in
         let y = key-most (p .end) (slice (p .«end_from») (p .«end_to») bs) in
         let u = length-slice (p .«start_from») (p .«start_to») bs (omega (arith, keys-within)) in

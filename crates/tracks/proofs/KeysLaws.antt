@@ -18,29 +18,32 @@ use Rattle.machine.specs.Serve.{addKeys, withTxn, answer, track}
 use Rattle.machine.proofs.ListLaws.{sum-append}
 use Rattle.machine.proofs.SetLaws.{insertAll-longer, insertAll-bytes}
 use Rattle.machine.proofs.WhichLaws.{set-marks, set-bytes, set-counts}
-use Rattle.layout.specs.Offsets.{idSize, entriesAt}
+use Rattle.layout.specs.Offsets.{idSize, entriesAt, anyLength}
 use Rattle.moves.specs.Splices.{usedAfter}
 use Rattle.layout.specs.Keys.{setForm}
 use Rattle.layout.specs.Records.{txnForm}
 use Rattle.layout.specs.States.{roomSize}
 use Rattle.layout.specs.Rooms.{Served}
-use Rattle.layout.proofs.PartLaws.{part-end}
+use Rattle.layout.proofs.FillLaws.{fills-end}
 use Rattle.layout.proofs.RowLaws.{row-inside}
 use Rattle.layout.proofs.SizeLaws.{set-length}
 use Rattle.layout.proofs.LoadLaws.{refuse, look-absent, change}
+use Rattle.layout.proofs.WideLaws.{short-wide}
 use Rattle.places.specs.declared.finds.Place.{Place}
 use Rattle.places.specs.Finds.{Found}
-use Rattle.edits.specs.Laid.{entriesOf, activeOf}
+use Rattle.edits.specs.Laid.{writeEntries, writeActive}
 use Rattle.answers.proofs.FormLaws.{Listed, no-list, long-list, good-list}
 use Rattle.answers.proofs.TrackLaws.{track-absent, track-full, track-done, keys-malformed, keys-long, keys-track}
 use Rattle.answers.proofs.InsideLaws.{laid-within}
 use Rattle.room.specs.declared.View.{View}
 use Rattle.room.specs.Views.{Seen}
 use Rattle.tracks.specs.declared.Grown.{Grown}
+use Rattle.tracks.specs.Sets.{PassesLimits}
 use Rattle.tracks.specs.Tracks.{beforeSet, SetAt, Growable, SetGrown, NotGrown, GrownIs}
 use Rattle.answers.proofs.SeenLaws.{seen-load, seen-held}
 use Rattle.answers.proofs.FoundLaws.{within, space-left, not-found, here, found, place, laid, changed}
 use Rattle.tracks.proofs.SetLaws.{SetIn, set-in, afterSet, set-split, set-split-new}
+use Rattle.keys.specs.Limit.{keyLimit}
 
 -- one of some counts no more than all
 one-of : (f : Txn → ℕ) (ts front : List Txn) (t : Txn) (back : List Txn) → ts ≡ front ++ (t ∷ back) → f t ≤ sum f ts
@@ -77,7 +80,7 @@ module _ {s : Bytes} {v : View} (n : Seen s v) (w : Which) (id list : Bytes) whe
         all = insertAll (listed .keys) ks
 
         stands : SetIn s w one at q
-        stands = set-in w one (here n f .part) a
+        stands = set-in w one (here n f .fills) a
 
         few : (length ks ≤ v .marks) × (setBytes ks ≤ v .bytes)
         few =
@@ -85,18 +88,18 @@ module _ {s : Bytes} {v : View} (n : Seen s v) (w : Which) (id list : Bytes) whe
             (omega (arith, set-counts w one, one-of txnMarks (n .state .active) (x .front) one (x .back) (x .whole), n .marks), omega (arith, set-counts w one, one-of txnBytes (n .state .active) (x .front) one (x .back) (x .whole), n .bytes))
 
         end-within : stands .end ≤ v .used
-        end-within = omega (arith, stands .within, row-inside (txnForm (base .key)) s q (here n f .back) (v .used) (here n f .after))
+        end-within = omega (arith, stands .within, row-inside (txnForm anyLength) s q (here n f .back) (v .used) (here n f .after))
 
         pub growable : Growable s (v .used) at list (base .marks - v .marks) (base .bytes - v .bytes)
         growable =
             record {
               ks = setOf w one;
               end = stands .end;
-              part = stands .part;
+              fills = stands .fills;
               within = end-within;
               keys = listed .keys;
               listed = listed .is;
-              short = listed .short;
+              short = short-wide keyLimit (omega arith) (listed .keys) (listed .short);
               few = omega (arith, few, within n);
               small = omega (arith, few, within n);
               space = omega (arith, space-left n, n .size);
@@ -110,9 +113,9 @@ module _ {s : Bytes} {v : View} (n : Seen s v) (w : Which) (id list : Bytes) whe
         bytes-added = set-bytes w all one b (omega (arith, insertAll-bytes (listed .keys) ks))
 
         pub keys-full : {s' : Bytes} → GrownIs s (v .used) at list (base .marks - v .marks) (base .bytes - v .bytes) s' Grown.Full → Served s (on (trackKeys w id list)) 6 0 s'
-        keys-full {s'} r = ends (r .is ks (listed .keys) (stands .end) (stands .part) (listed .is))
+        keys-full {s'} r = ends (r .is ks (listed .keys) (stands .end) (stands .fills) (listed .is))
           where
-            passed : (length ks + (base .marks - v .marks) < length all) ⊎ (setBytes ks + (base .bytes - v .bytes) < setBytes all) → (base .marks < marks (n .state) + (length all - length ks)) ⊎ (base .bytes < keyBytes (n .state) + b)
+            passed : PassesLimits ks all (base .marks - v .marks) (base .bytes - v .bytes) → (base .marks < marks (n .state) + (length all - length ks)) ⊎ (base .bytes < keyBytes (n .state) + b)
             passed (inl x) = inl (omega (arith, x, n .marks, within n))
             passed (inr x) = inr (omega (arith, x, n .bytes, within n))
 
@@ -123,16 +126,16 @@ module _ {s : Bytes} {v : View} (n : Seen s v) (w : Which) (id list : Bytes) whe
                 rw (o .same) (refuse s (n .state) (trackKeys w id list) (seen-load n) full (tracks-on ∙ e))
 
         pub keys-done : {s' : Bytes} {k : ℕ} → GrownIs s (v .used) at list (base .marks - v .marks) (base .bytes - v .bytes) s' (Grown.New k) → Served s (on (trackKeys w id list)) 0 k s'
-        keys-done {s'} {k} r = ends (r .is ks (listed .keys) (stands .end) (stands .part) (listed .is))
+        keys-done {s'} {k} r = ends (r .is ks (listed .keys) (stands .end) (stands .fills) (listed .is))
           where
             ends : SetGrown s (v .used) at ks (stands .end) all (base .marks - v .marks) (base .bytes - v .bytes) s' k → Served s (on (trackKeys w id list)) 0 k s'
             ends o =
                 let t' : Txn = addKeys w (listed .keys) one in
                 let em = set-marks w all one k (o .new) in
                 let e = track-done base (n .state) id (addKeys w (listed .keys)) one t' k b (found n f) refl refl em bytes-added (seen-held n .kept) (omega (arith, o .new, o .few, n .marks, within n)) (omega (arith, o .small, n .bytes, within n, insertAll-bytes (listed .keys) ks)) in
-                let gone : stands .end - at ≡ length (setForm (base .key) .write ks) = omega (arith, part-end (setForm (base .key)) (stands .part)) in
-                let fits : usedAfter (v .used) (stands .end - at) (setForm (base .key) .write all) ≤ roomSize base =
-                omega (arith, gone, set-length (base .key) ks, set-length (base .key) all, o .few, o .small, space-left n, within n, end-within, stands .part .from) in
-                let at-is : at ≡ entriesAt + (length (entriesOf (n .state .entries)) + length (activeOf (here n f .front))) + length (beforeSet w one) = omega (arith, a .is one q (here n f .part), place n f) in
-                let l = laid-within (here n f .front) (here n f .back) one t' (beforeSet w one) (setForm (base .key) .write ks) (afterSet w one) (laid n f) (set-split w one) (set-split-new w (listed .keys) one) at-is gone (o .spliced) fits in
+                let gone : stands .end - at ≡ length (setForm anyLength .write ks) = omega (arith, fills-end (setForm anyLength) (stands .fills)) in
+                let fits : usedAfter (v .used) (stands .end - at) (setForm anyLength .write all) ≤ roomSize base =
+                omega (arith, gone, set-length anyLength ks, set-length anyLength all, o .few, o .small, space-left n, within n, end-within, stands .fills .from) in
+                let at-is : at ≡ entriesAt + (length (writeEntries (n .state .entries)) + length (writeActive (here n f .front))) + length (beforeSet w one) = omega (arith, a .is one q (here n f .fills), place n f) in
+                let l = laid-within (here n f .front) (here n f .back) one t' (beforeSet w one) (setForm anyLength .write ks) (afterSet w one) (laid n f) (set-split w one) (set-split-new w (listed .keys) one) at-is gone (o .spliced) fits in
                 change s s' (n .state) (withTxn t' (n .state)) (trackKeys w id list) (seen-load n) (changed n f t' refl l) k (tracks-on ∙ e)

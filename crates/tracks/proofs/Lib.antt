@@ -2,7 +2,7 @@ pub mod GrowLaws
 pub mod SetLaws
 pub mod KeysLaws
 pub mod KeyLaws
-pub mod FindLaws
+pub mod PlaceLaws
 pub mod PutLaws
 pub mod TotalLaws
 pub mod InsertLaws

@@ -1,17 +1,16 @@
 -- The record of a set in a draft, and what it is when the keys of a list are added.
-use Prim.Native.Nat.{ℕ, _+_, _*_, _≤_, _<_}
+use Prim.Native.Nat.{ℕ, _+_, _*_, _≤_}
 use mathlib.Core.Path.{_≡_}
 use mathlib.Core.List.{List}
-use mathlib.Core.Logic.{_⊎_}
 use mathlib.Core.Option.{some}
 use lib.ListN.{length, take, drop}
 use Rattle.fields.specs.Fields.{keyList}
 use Rattle.machine.specs.State.{Bytes, base, setBytes}
 use Rattle.machine.specs.Sets.{insertAll}
-use Rattle.layout.specs.Offsets.{countSize, lengthSize}
+use Rattle.layout.specs.Offsets.{countSize, lengthSize, anyLength}
 use Rattle.layout.specs.Keys.{setForm}
 use Rattle.layout.specs.Rows.{Row}
-use Rattle.tracks.specs.Sets.{Key, Ready}
+use Rattle.tracks.specs.Sets.{Key, Ready, PassesLimits}
 use Rattle.tracks.specs.declared.drafts.Drafted.{Drafted}
 
 -- what the record of the largest set takes: its count, and two bytes for each mark beside the key bytes
@@ -25,17 +24,17 @@ pub record Begun (d : Bytes) (used n : ℕ) (list : Bytes) (marks bytes : ℕ) :
 
 -- the first bytes are the record of the set `all`, of which `ks` were there before, within the limits
 pub record SetStands (d : Bytes) (ks all : List Bytes) (marks bytes end n : ℕ) : Type 0 where
-  pub whole : take end d ≡ setForm (base .key) .write all
+  pub whole : take end d ≡ setForm anyLength .write all
   pub inside : end ≤ length d
   pub count : n ≡ length all
   pub few : length all ≤ length ks + marks
   pub small : setBytes all ≤ setBytes ks + bytes
 
-abbrev pub Outcome : Bytes → List Bytes → List Bytes → ℕ → ℕ → Drafted → Type 0
-Outcome d ks all marks bytes (Drafted.Set end count) = SetStands d ks all marks bytes end count
-Outcome d ks all marks bytes Drafted.Full = (length ks + marks < length all) ⊎ (setBytes ks + bytes < setBytes all)
+abbrev pub DraftedOutcome : Bytes → List Bytes → List Bytes → ℕ → ℕ → Drafted → Type 0
+DraftedOutcome d ks all marks bytes (Drafted.Set end count) = SetStands d ks all marks bytes end count
+DraftedOutcome d ks all marks bytes Drafted.Full = PassesLimits ks all marks bytes
 
 -- for every set that the used bytes can be read as, and every list of keys
 pub record DraftedIs (d : Bytes) (used count : ℕ) (list : Bytes) (marks bytes : ℕ) (d' : Bytes) (r : Drafted) : Type 0 where
-  pub is : (ks keys : List Bytes) → Row Key (drop countSize d) 0 ks used → length ks ≡ count → keyList list ≡ some keys → Outcome d' ks (insertAll keys ks) marks bytes r
+  pub is : (ks keys : List Bytes) → Row Key (drop countSize d) 0 ks used → length ks ≡ count → keyList list ≡ some keys → DraftedOutcome d' ks (insertAll keys ks) marks bytes r
   pub size : length d' ≡ length d

@@ -7,14 +7,14 @@ use lib.ListN.{length}
 use lib.Seq.{paste}
 use Rattle.keys.specs.Limit.{keyLimit}
 use Rattle.bounds.specs.Ranges.{Range, notEmpty}
-use Rattle.machine.specs.State.{Bytes, Txn, base, rangeBytes}
+use Rattle.machine.specs.State.{Bytes, Txn, rangeBytes}
 use Rattle.machine.specs.Serve.{shortRange}
-use Rattle.layout.specs.Offsets.{countSize}
+use Rattle.layout.specs.Offsets.{countSize, anyLength}
 use Rattle.codec.specs.Formats.{number}
 use Rattle.moves.specs.Splices.{Spliced}
 use Rattle.layout.specs.Keys.{rangesForm}
 use Rattle.layout.specs.Records.{txnForm}
-use Rattle.layout.specs.Rows.{Part}
+use Rattle.layout.specs.Rows.{Fills}
 use Rattle.tracks.specs.declared.range.Judged.{Judged}
 
 -- "First in this order wins: .. 2, 4, 5"
@@ -25,17 +25,17 @@ judged (some r) = cond (shortRange keyLimit r) (cond (notEmpty r) (Judged.Good (
 -- a transaction stands from txn up to end in the used bytes, and the bounds find room behind those
 pub record Appendable (s : Bytes) (used txn end : ℕ) (bounds : Bytes) : Type 0 where
   pub one : Txn
-  pub part : Part (txnForm (base .key)) s txn one end
+  pub fills : Fills (txnForm anyLength) s txn one end
   pub within : end ≤ used
   pub space : used + length bounds ≤ length s
 
 -- the bounds are put in at the end of the transaction's record, and then the count of its ranges is raised
 pub record AppendedTo (s : Bytes) (used end : ℕ) (bounds s' : Bytes) (t : Txn) : Type 0 where
   pub at : ℕ
-  pub ranges : Part (rangesForm (base .key)) s at (t .ranges) end
+  pub ranges : Fills (rangesForm anyLength) s at (t .ranges) end
   pub longer : Bytes
   pub spliced : Spliced s used end 0 bounds longer
   pub counted : s' ≡ paste longer at (number countSize .write (length (t .ranges) + 1)) countSize
 
 pub record Appended (s : Bytes) (used txn end : ℕ) (bounds s' : Bytes) : Type 0 where
-  pub is : (t : Txn) → Part (txnForm (base .key)) s txn t end → AppendedTo s used end bounds s' t
+  pub is : (t : Txn) → Fills (txnForm anyLength) s txn t end → AppendedTo s used end bounds s' t

@@ -1,6 +1,6 @@
 // Tracks: the keys and ranges that an active transaction reads and writes, put into its record.
-ghost use Rattle.machine.specs.State.{base};
 ghost use Rattle.machine.specs.Calls.{on, trackKeys};
+ghost use Rattle.layout.specs.Offsets.{anyLength};
 ghost use Rattle.layout.specs.Records.{txnForm};
 ghost use Rattle.layout.specs.Rooms.{Served};
 ghost use Rattle.layout.specs.Rows.{Here};
@@ -64,7 +64,7 @@ fn grow_set(
 
 // Where that set of the transaction at a place stands.
 fn set_at(room: &[u8], txn: usize, which: Which) -> usize
-    requires { ⌜ Here (txnForm (base .key)) (now room) txn ⌝ }
+    requires { ⌜ Here (txnForm anyLength) (now room) txn ⌝ }
     ensures { λ r. ⌜ SetAt (now (room .entry)) txn which r ⌝ }
 {
     match which {

@@ -1,38 +1,37 @@
 // Sets of keys in a draft: the record of each key after the other, ascending.
 ghost use Rattle.layout.specs.Rows.{Rows};
-ghost use Rattle.tracks.specs.Sets.{Key, FoundIs, Ready, InsertedIs};
+ghost use Rattle.tracks.specs.Sets.{Key, KeyPlaceIs, Ready, InsertedIs};
 use fields::NextKey;
 use fields::next_key;
 use layout::LENGTH;
 use moves::splice;
+use places::cursor::Cursor;
 use places::skips::key_past;
 
 // Where a key belongs in a set: it is there, or it is to stand before what stands at a place.
-enum Found {
+enum KeyPlace {
     There,
     Before(usize),
 }
 
-fn find_place(draft: &[u8], count: usize, key: &[u8]) -> Found
+fn find_place(draft: &[u8], count: usize, key: &[u8]) -> KeyPlace
     requires { ⌜ Rows Key (now draft) 0 count ⌝ }
-    ensures { λ r. ⌜ FoundIs (now (draft .entry)) count (now (key .entry)) r ⌝ }
+    ensures { λ r. ⌜ KeyPlaceIs (now (draft .entry)) count (now (key .entry)) r ⌝ }
 {
-    let mut place = 0;
-    let mut left = count;
-    while 0 < left {
-        let from = place + LENGTH;
-        let next = key_past(draft, place);
+    let mut c = Cursor::new(0, count);
+    while 0 < c.left {
+        let from = c.at + LENGTH;
+        let next = key_past(draft, c.at);
         let side = keys::compare(key, &draft[from..next]);
         if side < 0 {
-            return Found::Before(place);
+            return KeyPlace::Before(c.at);
         }
         if side == 0 {
-            return Found::There;
+            return KeyPlace::There;
         }
-        place = next;
-        left -= 1;
+        c = c.past(next);
     }
-    Found::Before(place)
+    KeyPlace::Before(c.at)
 }
 
 pub enum Inserted {
@@ -61,8 +60,8 @@ pub fn insert_all(
     loop {
         match next_key(list, at) {
             NextKey::Key { from, to } => match find_place(draft, count, &list[from..to]) {
-                Found::There => at = to,
-                Found::Before(place) => {
+                KeyPlace::There => at = to,
+                KeyPlace::Before(place) => {
                     let size = to - from;
                     if marks == 0 || bytes < size {
                         return Inserted::Full;

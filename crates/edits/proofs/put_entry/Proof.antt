@@ -3,6 +3,7 @@ use borrow.Author.Needs.{needs}
 use lib.ListN.{replicate}
 use native.Mathlib.Omega.{arith}
 use mathlib.Core.Path.{refl}
+use Rattle.layout.specs.Offsets.{keysAt}
 use Rattle.edits.proofs.EditLaws.{number-written, entry-put}
 use Rattle.edits.proofs.put_entry.Statement.{statement}
 use Rattle.edits.proofs.put_entry.Tie as tie
@@ -31,18 +32,15 @@ splice-requires-2 c κs = search needs
 same-length : tie.Need-same-length
 same-length c = search needs
 
--- from what follows back to the place that it rests on
-abbrev splice-from-slice-known3 : tie.After-slice-known3 → tie.After-splice
-splice-from-slice-known3 c = c .before .before .before .before .before .before
-
-abbrev write-eight-from-slice-known3 : tie.After-slice-known3 → tie.After-write-eight
-write-eight-from-slice-known3 c = c .before .before .before .before .before .before .before .before .before .before
-
-abbrev start-from-slice-known3 : tie.After-slice-known3 → tie.Start
-start-from-slice-known3 c = c .before .before .before .before .before .before .before .before .before .before .before .before .before .before
+-- the first splice, seen from behind the second
+abbrev first : tie.After-slice-known3 → tie.After-splice
+first c = c .before .before .before .before .before .before
 
 returns : tie.Need-returns
-returns c = entry-put _ _ _ _ _ _ _ _ (start-from-slice-known3 c .pre .0) (omega arith) (number-written (replicate 8 0) _ _ refl (write-eight-from-slice-known3 c .write-eight .ensures)) (splice-from-slice-known3 c .splice .ensures) (c .before .before .splice2 .ensures)
+returns c =
+    let one = first c in
+    let head = one .before .before .before .before in
+    entry-put _ _ _ _ _ _ _ _ (head .before .before .before .before .pre .0) (omega arith) (number-written (replicate keysAt 0) _ _ refl (head .write-eight .ensures)) (one .splice .ensures) (c .before .before .splice2 .ensures)
 
 pub put-entry-spec : {M : Type 1} → statement M
 put-entry-spec =

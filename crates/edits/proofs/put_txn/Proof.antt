@@ -26,18 +26,15 @@ splice-requires c κs = search needs
 same-length : tie.Need-same-length
 same-length c = search needs
 
--- from what follows back to the place that it rests on
-abbrev copy-in-from-slice-known2 : tie.After-slice-known2 → tie.After-copy-in
-copy-in-from-slice-known2 c = c .before .before .before .before .before .before .before .before .before
-
-abbrev write-eight-from-slice-known2 : tie.After-slice-known2 → tie.After-write-eight
-write-eight-from-slice-known2 c = c .before .before .before .before .before .before
-
-abbrev start-from-slice-known2 : tie.After-slice-known2 → tie.Start
-start-from-slice-known2 c = c .before .before .before .before .before .before .before .before .before .before .before .before .before
+-- the record as it was written, seen from behind the splice
+abbrev written : tie.After-slice-known2 → tie.After-write-eight
+written c = c .before .before .before .before .before .before
 
 returns : tie.Need-returns
-returns c = txn-put _ _ _ _ _ _ _ _ _ refl (start-from-slice-known2 c .pre .2) (copy-in-from-slice-known2 c .copy-in .ensures) (write-eight-from-slice-known2 c .write-eight .ensures) (c .before .before .splice .ensures)
+returns c =
+    let whole = written c in
+    let id = whole .before .before .before in
+    txn-put _ _ _ _ _ _ _ _ _ refl (id .before .before .before .before .pre .2) (id .copy-in .ensures) (whole .write-eight .ensures) (c .before .before .splice .ensures)
 
 pub put-txn-spec : {M : Type 1} → statement M
 put-txn-spec =

@@ -20,21 +20,16 @@ write-two-requires-2 c κs = search needs
 same-length : tie.Need-same-length
 same-length c = search needs
 
--- from what follows back to the place that it rests on
-abbrev write-eight-from-slice-known5 : tie.After-slice-known5 → tie.After-write-eight
-write-eight-from-slice-known5 c = c .before .before .before .before .before .before .before .before .before .before .before .before .before .before
-
-abbrev write-eight2-from-slice-known5 : tie.After-slice-known5 → tie.After-write-eight2
-write-eight2-from-slice-known5 c = c .before .before .before .before .before .before .before .before .before .before
-
-abbrev write-two-from-slice-known5 : tie.After-slice-known5 → tie.After-write-two
-write-two-from-slice-known5 c = c .before .before .before .before .before .before
-
-abbrev start-from-slice-known5 : tie.After-slice-known5 → tie.Start
-start-from-slice-known5 c = c .before .before .before .before .before .before .before .before .before .before .before .before .before .before .before .before .before
+-- the first count, seen from behind the second
+abbrev entries : tie.After-slice-known5 → tie.After-write-two
+entries c = c .before .before .before .before .before .before
 
 returns : tie.Need-returns
-returns c = fresh-written (now (start-from-slice-known5 c .args .room)) _ _ _ _ _ (start-from-slice-known5 c .pre) (write-eight-from-slice-known5 c .write-eight .ensures) (write-eight2-from-slice-known5 c .write-eight2 .ensures) (write-two-from-slice-known5 c .write-two .ensures) (c .before .before .write-two2 .ensures)
+returns c =
+    let last = entries c .before .before .before .before in
+    let stamp = last .before .before .before .before in
+    let start = stamp .before .before .before in
+    fresh-written (now (start .args .room)) _ _ _ _ _ (start .pre) (stamp .write-eight .ensures) (last .write-eight2 .ensures) (entries c .write-two .ensures) (c .before .before .write-two2 .ensures)
 
 pub write-fresh-spec : {M : Type 1} → statement M
 write-fresh-spec =

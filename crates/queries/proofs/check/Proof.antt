@@ -8,7 +8,8 @@ use Rattle.places.specs.declared.finds.Place.{Place}
 use Rattle.places.specs.Finds.{Found}
 use Rattle.answers.proofs.SeenLaws.{active-rows, entry-rows}
 use Rattle.answers.proofs.SaidLaws.{said}
-use Rattle.queries.proofs.QueryLaws.{checks-absent, checks-malformed, found-here, checks}
+use Rattle.answers.proofs.FoundLaws.{txn-here}
+use Rattle.queries.proofs.QueryLaws.{checks-absent, checks-malformed, checks}
 use Rattle.queries.proofs.check.Statement.{statement}
 use Rattle.queries.proofs.check.Tie as tie
 
@@ -41,7 +42,7 @@ enum-known-at : tie.Need-enum-known-at
 enum-known-at c = search needs
 
 conflicts-requires : tie.Need-conflicts-requires
-conflicts-requires c κs = let p = c .before in (entry-rows (start p .pre), found-here _ _ _ (start p .pre) (place p))
+conflicts-requires c κs = let p = c .before in (entry-rows (start p .pre), txn-here (start p .pre) (place p))
 
 done-requires : tie.Need-done-requires
 done-requires c κs = search needs

@@ -15,8 +15,8 @@ use Rattle.room.proofs.open_record.Statement.{statement}
 use Rattle.room.proofs.open_record.Tie as tie
 
 -- from what follows back to the place that it rests on
-abbrev start-from-entries-end : tie.After-entries-end → tie.Start
-start-from-entries-end c = c .before .before .before .before .before .before
+abbrev start-from-run-end : tie.After-run-end → tie.Start
+start-from-run-end c = c .before .before .before .before .before .before
 
 abbrev start-from-t : tie.After-t → tie.Start
 start-from-t c = c .before .before .before .before .before .before .before .before
@@ -38,7 +38,7 @@ headed : (c : tie.After-top) → HeadIs (now (c .before .before .before .before 
 headed c = rw (c .top .given .1) at (c .before .before .head .ensures)
 
 entered : (c : tie.After-t) → Got (runOf (anEntry keyLimit) anyOrder (c .before .before .before .before .top .given .0 .0 .entries)) (now (start-from-t c .args .room)) entriesAt (c .t .given .0 .0)
-entered c = rw (c .t .given .1) at (c .before .before .entries-end .ensures)
+entered c = rw (c .t .given .1) at (c .before .before .run-end .ensures)
 
 begun : (c : tie.After-u) → Got (runOf (aTxn keyLimit) belowId (top-from-u c .top .given .0 .0 .active)) (now (start-from-u c .args .room)) (c .before .before .before .before .t .given .0 .0 .end) (c .u .given .0 .0)
 begun c = rw (c .u .given .1) at (c .before .before .active-end .ensures)
@@ -52,8 +52,8 @@ enum-told c = search needs
 enum-known-top : tie.Need-enum-known-top
 enum-known-top c = search needs
 
-entries-end-requires : tie.Need-entries-end-requires
-entries-end-requires c κs = search needs
+run-end-requires : tie.Need-run-end-requires
+run-end-requires c κs = search needs
 
 enum-told-2 : tie.Need-enum-told-2
 enum-told-2 c = search needs
@@ -62,7 +62,7 @@ enum-known-t : tie.Need-enum-known-t
 enum-known-t c = search needs
 
 active-end-requires : tie.Need-active-end-requires
-active-end-requires c κs = entered (c .before) .part .inside
+active-end-requires c κs = entered (c .before) .fills .inside
 
 enum-told-3 : tie.Need-enum-told-3
 enum-told-3 c = search needs
@@ -83,7 +83,7 @@ returns-2 : tie.Need-returns-2
 returns-2 c = no-head (c .before .before .before .before .pre) (rw (c .enum-told .given .1) at (c .before .before .head .ensures))
 
 returns-3 : tie.Need-returns-3
-returns-3 c = no-entries (start-from-entries-end (c .before .before) .pre) (headed (c .before .before .before .before)) (rw (c .enum-told2 .given .1) at (c .before .before .entries-end .ensures))
+returns-3 c = no-entries (start-from-run-end (c .before .before) .pre) (headed (c .before .before .before .before)) (rw (c .enum-told2 .given .1) at (c .before .before .run-end .ensures))
 
 returns-4 : tie.Need-returns-4
 returns-4 c = no-active (start-from-t (c .before .before .before .before) .pre) (headed (top-from-active-end (c .before .before))) (entered (c .before .before .before .before)) (rw (c .enum-told3 .given .1) at (c .before .before .active-end .ensures))
@@ -98,7 +98,7 @@ open-record-spec =
     head-requires
     enum-told
     enum-known-top
-    entries-end-requires
+    run-end-requires
     enum-told-2
     enum-known-t
     active-end-requires

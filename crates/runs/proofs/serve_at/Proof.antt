@@ -3,7 +3,7 @@ use native.Mathlib.Omega.{arith}
 use borrow.Author.Needs.{needs}
 use denote.Ref.{now}
 use Rattle.script.specs.declared.records.Next.{Next}
-use Rattle.script.specs.Records.{NextIs}
+use Rattle.script.specs.Records.{NextRecordIs}
 use Rattle.runs.proofs.serve_at.Statement.{statement}
 use Rattle.runs.proofs.serve_at.Tie as tie
 
@@ -12,7 +12,7 @@ abbrev start-shared-slice-known : tie.After-shared-slice-known → tie.Start
 start-shared-slice-known c = c .before
 
 -- the record that was read
-seen : (c : tie.After-tag) → NextIs (now (start-shared-slice-known (c .before .before .before .before .before) .args .runs)) (start-shared-slice-known (c .before .before .before .before .before) .args .at) (Next.Whole (c .tag .given .0 .0) (c .tag .given .0 .1 .0) (c .tag .given .0 .1 .1 .0))
+seen : (c : tie.After-tag) → NextRecordIs (now (start-shared-slice-known (c .before .before .before .before .before) .args .runs)) (start-shared-slice-known (c .before .before .before .before .before) .args .at) (Next.Whole (c .tag .given .0 .0) (c .tag .given .0 .1 .0) (c .tag .given .0 .1 .1 .0))
 seen c = rw (c .tag .given .1) at (c .before .before .next-record .ensures)
 
 shared-slice-read-if1 : tie.Need-shared-slice-read-if1

@@ -7,14 +7,15 @@ use borrow.Author.Needs.{needs}
 use borrow.Author.Tests.{not-true, not-false}
 use denote.Ref.{now}
 use lib.Dec.{eqb}
-use Rattle.machine.specs.State.{base}
+use Rattle.layout.specs.Offsets.{anyLength}
 use Rattle.layout.specs.Keys.{keyForm}
 use Rattle.layout.specs.Records.{entryForm}
 use Rattle.layout.specs.Rows.{Here}
 use Rattle.places.specs.declared.cursor.Cursor.{Cursor}
 use Rattle.places.proofs.MarkLaws.{key-room, key-ends}
 use Rattle.search.specs.Search.{marksLeft, Stays}
-use Rattle.search.proofs.SearchLaws.{MarksWalk, KeysWalk, EntriesWalk, txn-room, entry-room, marks-start, marks-stay, marks-none, marks-hit, marks-next, next-less, keys-start, keys-here, keys-none, keys-hit, keys-next, entries-start, entries-here, entries-none, entries-hit, entry-early, entry-apart}
+use Rattle.places.proofs.SeekLaws.{txn-inside}
+use Rattle.search.proofs.SearchLaws.{MarksWalk, KeysWalk, EntriesWalk, entry-room, marks-start, marks-stay, marks-none, marks-hit, marks-next, next-less, keys-start, keys-here, keys-none, keys-hit, keys-next, entries-start, entries-here, entries-none, entries-hit, entry-early, entry-apart}
 use Rattle.search.proofs.conflicts.Statement.{statement}
 use Rattle.search.proofs.conflicts.Tie as tie
 
@@ -55,10 +56,10 @@ entry c = c .before .before .before .before .before .before .before
 abbrev key : InMark → InKey
 key c = c .before .before .before .before .before
 
-entry-at : (c : InEntry) → Here (entryForm (base .key)) (now (start c .args .room)) (c .before .before .search .e .at)
+entry-at : (c : InEntry) → Here (entryForm anyLength) (now (start c .args .room)) (c .before .before .search .e .at)
 entry-at c = entries-here _ _ _ _ _ (c .before .before .search .inv .1) (start c .pre .0) (start c .pre .1) (c .if1 .taken)
 
-key-at : (c : InKey) → Here (keyForm (base .key)) (now (start (entry c) .args .room)) (c .before .before .loop .k .at)
+key-at : (c : InKey) → Here (keyForm anyLength) (now (start (entry c) .args .room)) (c .before .before .loop .k .at)
 key-at c = keys-here _ _ _ _ (c .before .before .loop .inv .1) (start (entry c) .pre .1) (entry-at (entry c)) (c .if3 .taken)
 
 more : (c : InMark) → eqb (marksLeft (c .before .before .loop2 .m)) 0 ≡ false
@@ -68,11 +69,11 @@ mark-at : (c : InMark) → Stays (now (start (entry (key c)) .args .room)) (c .b
 mark-at c = marks-stay _ _ _ _ (c .before .before .loop2 .inv .1) (start (entry (key c)) .pre .1) (key-at (key c)) (more c)
 
 add-read-eight : tie.Need-add-read-eight Inv-loop2 μ-loop2 Inv-loop μ-loop Inv-search μ-search
-add-read-eight c = let h = txn-room (c .before .pre .1) in omega arith
+add-read-eight c = let h = txn-inside (c .before .pre .1) in omega arith
 
 read-eight-requires :
     tie.Need-read-eight-requires Inv-loop2 μ-loop2 Inv-loop μ-loop Inv-search μ-search
-read-eight-requires c κs = let h = txn-room (c .before .pre .1) in omega arith
+read-eight-requires c κs = let h = txn-inside (c .before .pre .1) in omega arith
 
 of-requires : tie.Need-of-requires Inv-loop2 μ-loop2 Inv-loop μ-loop Inv-search μ-search
 of-requires c κs = c .before .before .pre .1

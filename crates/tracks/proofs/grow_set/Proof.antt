@@ -2,54 +2,43 @@
 -- what the draft holds is what the room's set becomes.
 use Prim.Native.Nat.{_+_, _-_}
 use denote.Ref.{now}
+use Rattle.layout.specs.Offsets.{countSize}
 use Rattle.tracks.specs.declared.drafts.Drafted.{Drafted}
 use Rattle.tracks.specs.Drafts.{DraftedIs}
 use native.Mathlib.Omega.{arith}
-use Rattle.tracks.proofs.GrowLaws.{head-inside, Copied, set-inside, lent, fits-draft, copied, begun, not-grown, in-draft, more-keys, can-put, grown}
+use Rattle.tracks.proofs.GrowLaws.{head-inside, Copied, Inside, set-inside, lent, fits-draft, copied, begun, not-grown, in-draft, more-keys, can-put, grown}
 use borrow.Author.Needs.{needs}
 use Rattle.tracks.proofs.grow_set.Statement.{statement}
 use Rattle.tracks.proofs.grow_set.Tie as tie
 
--- from a named place back to the one before it, and to the start
-abbrev start-set-past : tie.After-set-past → tie.Start
-start-set-past c = c .before .before .before .before
+-- back from the new set's record to the draft with the old keys, the count and the end of the old set, and the start
+abbrev put : tie.After-slice-known2 → tie.After-n
+put c = c .before .before .before .before .before .before .before
 
-abbrev before-read-two : tie.After-read-two → tie.After-set-past
-before-read-two c = c .before .before
+abbrev copy : tie.After-n → tie.After-copy-in
+copy c = c .before .before .before .before .before .before
 
-abbrev start-read-two : tie.After-read-two → tie.Start
-start-read-two c = start-set-past (c .before .before)
+abbrev count : tie.After-copy-in → tie.After-read-two
+count c = c .before .before .before .before
 
-abbrev before-copy-in : tie.After-copy-in → tie.After-read-two
-before-copy-in c = c .before .before .before .before
+abbrev past : tie.After-read-two → tie.After-set-past
+past c = c .before .before
 
-abbrev start-copy-in : tie.After-copy-in → tie.Start
-start-copy-in c = start-read-two (c .before .before .before .before)
+abbrev start : tie.After-set-past → tie.Start
+start c = c .before .before .before .before
 
-abbrev before-draft2 : tie.After-draft2 → tie.After-copy-in
-before-draft2 c = c .before
+abbrev set : tie.After-copy-in → tie.After-set-past
+set c = past (count c)
 
-abbrev start-draft2 : tie.After-draft2 → tie.Start
-start-draft2 c = start-copy-in (c .before)
-
-abbrev before-n : tie.After-n → tie.After-draft2
-before-n c = c .before .before .before .before .before
-
-abbrev start-n : tie.After-n → tie.Start
-start-n c = start-draft2 (c .before .before .before .before .before)
-
-abbrev before-splice-arg : tie.After-splice-arg → tie.After-n
-before-splice-arg c = c .before .before
-
-abbrev start-splice-arg : tie.After-splice-arg → tie.Start
-start-splice-arg c = start-n (c .before .before)
+inside : (c : tie.After-read-two) → Inside (start (past c) .pre) (past c .set-past .ensures)
+inside c = set-inside (start (past c) .pre) (past c .set-past .ensures)
 
 -- the draft with the set's keys
-was-copied : (c : tie.After-copy-in) → Copied (c .copy-in .last .0) (lent (start-copy-in c .pre) (before-read-two (before-copy-in c) .set-past .ensures))
-was-copied c = copied (start-copy-in c .pre) (before-read-two (before-copy-in c) .set-past .ensures) _ (c .copy-in .ensures)
+was-copied : (c : tie.After-copy-in) → Copied (c .copy-in .last .0) (lent (start (set c) .pre) (set c .set-past .ensures))
+was-copied c = copied (start (set c) .pre) (set c .set-past .ensures) _ (c .copy-in .ensures)
 
 -- the draft with the list's keys
-drafted : (c : tie.After-n) → DraftedIs (before-draft2 (before-n c) .copy-in .last .0) (before-read-two (before-copy-in (before-draft2 (before-n c))) .set-past .result - (start-n c .args .at + 2)) (before-copy-in (before-draft2 (before-n c)) .read-two .result) (now (start-n c .args .list)) (start-n c .args .marks) (start-n c .args .bytes) (c .before .before .before .draft-keys .last .0) (Drafted.Set (c .n .given .0 .0) (c .n .given .0 .1 .0))
+drafted : (c : tie.After-n) → DraftedIs (copy c .copy-in .last .0) (set (copy c) .set-past .result - (start (set (copy c)) .args .at + countSize)) (count (copy c) .read-two .result) (now (start (set (copy c)) .args .list)) (start (set (copy c)) .args .marks) (start (set (copy c)) .args .bytes) (c .before .before .before .draft-keys .last .0) (Drafted.Set (c .n .given .0 .0) (c .n .given .0 .1 .0))
 drafted c = rw (c .n .given .1) at (c .before .before .before .draft-keys .ensures)
 
 add-from : tie.Need-add-from
@@ -59,37 +48,41 @@ set-past-requires : tie.Need-set-past-requires
 set-past-requires c κs = search needs
 
 read-two-requires : tie.Need-read-two-requires
-read-two-requires c κs = head-inside (c .before .before .before .before .before .pre)
+read-two-requires c κs = head-inside (start (c .before) .pre)
 
 slice-aggregate-copy-in : tie.Need-slice-aggregate-copy-in
 slice-aggregate-copy-in c = search needs
 
 sub-copy-in : tie.Need-sub-copy-in
-sub-copy-in c = omega (arith, set-inside (start-read-two (c .before) .pre) (c .before .before .before .set-past .ensures))
+sub-copy-in c = omega (arith, inside (c .before))
 
 part-copy-in-start : tie.Need-part-copy-in-start
-part-copy-in-start c = omega (arith, set-inside (start-read-two (c .before .before) .pre) (c .before .before .before .before .set-past .ensures))
+part-copy-in-start c = omega (arith, inside (c .before .before))
 
 part-copy-in-end : tie.Need-part-copy-in-end
-part-copy-in-end c = omega (arith, set-inside (start-read-two (c .before .before) .pre) (c .before .before .before .before .set-past .ensures))
+part-copy-in-end c = omega (arith, inside (c .before .before))
 
 copy-in-requires : tie.Need-copy-in-requires
-copy-in-requires c κs = fits-draft (start-read-two (c .before .before .before) .pre) (c .before .before .before .before .before .set-past .ensures)
+copy-in-requires c κs =
+    let was = past (c .before .before .before) in
+    fits-draft (start was .pre) (was .set-past .ensures)
 
 slice-aggregate-draft-keys : tie.Need-slice-aggregate-draft-keys
 slice-aggregate-draft-keys c = search needs
 
 sub-draft-keys : tie.Need-sub-draft-keys
-sub-draft-keys c = omega (arith, set-inside (start-draft2 (c .before) .pre) (before-read-two (before-copy-in (before-draft2 (c .before))) .set-past .ensures))
+sub-draft-keys c = omega (arith, inside (count (c .before .before)))
 
 draft-keys-requires : tie.Need-draft-keys-requires
-draft-keys-requires c κs = begun (start-draft2 (c .before) .pre) (before-read-two (before-copy-in (before-draft2 (c .before))) .set-past .ensures) (before-copy-in (before-draft2 (c .before)) .read-two .ensures) (was-copied (c .before .before))
+draft-keys-requires c κs =
+    let k = c .before .before in
+    begun (start (set k) .pre) (set k .set-past .ensures) (count k .read-two .ensures) (was-copied k)
 
 enum-known-n : tie.Need-enum-known-n
 enum-known-n c = search needs
 
 sub-splice : tie.Need-sub-splice
-sub-splice c = omega (arith, set-inside (start-splice-arg c .pre) (before-read-two (before-copy-in (before-draft2 (before-n (before-splice-arg c)))) .set-past .ensures))
+sub-splice c = omega (arith, inside (count (copy (c .before .before))))
 
 sub-splice-2 : tie.Need-sub-splice-2
 sub-splice-2 c = search needs
@@ -98,19 +91,29 @@ part-splice-start : tie.Need-part-splice-start
 part-splice-start c = search needs
 
 part-splice-end : tie.Need-part-splice-end
-part-splice-end c = omega (arith, in-draft (start-splice-arg (c .before) .pre) (before-read-two (before-copy-in (before-draft2 (before-n (before-splice-arg (c .before))))) .set-past .ensures) (before-copy-in (before-draft2 (before-n (before-splice-arg (c .before)))) .read-two .ensures) (was-copied (before-draft2 (before-n (before-splice-arg (c .before))))) (drafted (c .before .before .before)))
+part-splice-end c =
+    let d = c .before .before .before in
+    let k = copy d in
+    omega (arith, in-draft (start (set k) .pre) (set k .set-past .ensures) (count k .read-two .ensures) (was-copied k) (drafted d))
 
 splice-requires : tie.Need-splice-requires
-splice-requires c κs = can-put (start-splice-arg (c .before .before) .pre) (before-read-two (before-copy-in (before-draft2 (before-n (before-splice-arg (c .before .before))))) .set-past .ensures) (before-copy-in (before-draft2 (before-n (before-splice-arg (c .before .before)))) .read-two .ensures) (was-copied (before-draft2 (before-n (before-splice-arg (c .before .before))))) (drafted (c .before .before .before .before))
+splice-requires c κs =
+    let d = c .before .before .before .before in
+    let k = copy d in
+    can-put (start (set k) .pre) (set k .set-past .ensures) (count k .read-two .ensures) (was-copied k) (drafted d)
 
 sub-t30 : tie.Need-sub-t30
-sub-t30 c = more-keys (start-splice-arg (c .before .before .before .before .before) .pre) (before-read-two (before-copy-in (before-draft2 (before-n (before-splice-arg (c .before .before .before .before .before))))) .set-past .ensures) (before-copy-in (before-draft2 (before-n (before-splice-arg (c .before .before .before .before .before)))) .read-two .ensures) (was-copied (before-draft2 (before-n (before-splice-arg (c .before .before .before .before .before))))) (drafted (before-splice-arg (c .before .before .before .before .before)))
+sub-t30 c =
+    let k = copy (put c) in
+    more-keys (start (set k) .pre) (set k .set-past .ensures) (count k .read-two .ensures) (was-copied k) (drafted (put c))
 
 same-length : tie.Need-same-length
 same-length c = search needs
 
 returns : tie.Need-returns
-returns c = grown (start-splice-arg (c .before .before .before .before .before) .pre) (before-read-two (before-copy-in (before-draft2 (before-n (before-splice-arg (c .before .before .before .before .before))))) .set-past .ensures) (before-copy-in (before-draft2 (before-n (before-splice-arg (c .before .before .before .before .before)))) .read-two .ensures) (was-copied (before-draft2 (before-n (before-splice-arg (c .before .before .before .before .before))))) (drafted (before-splice-arg (c .before .before .before .before .before))) (c .before .before .splice .ensures)
+returns c =
+    let k = copy (put c) in
+    grown (start (set k) .pre) (set k .set-past .ensures) (count k .read-two .ensures) (was-copied k) (drafted (put c)) (c .before .before .splice .ensures)
 
 enum-told : tie.Need-enum-told
 enum-told c = search needs
@@ -119,7 +122,10 @@ same-length-2 : tie.Need-same-length-2
 same-length-2 c = search needs
 
 returns-2 : tie.Need-returns-2
-returns-2 c = not-grown (start-draft2 (c .before .before .before .before .before) .pre) (before-read-two (before-copy-in (before-draft2 (c .before .before .before .before .before))) .set-past .ensures) (before-copy-in (before-draft2 (c .before .before .before .before .before)) .read-two .ensures) (was-copied (before-draft2 (c .before .before .before .before .before))) (rw (c .enum-told .given .1) at (c .before .before .before .draft-keys .ensures))
+returns-2 c =
+    let full = c .before .before .before in
+    let k = full .before .before .before in
+    not-grown (start (set k) .pre) (set k .set-past .ensures) (count k .read-two .ensures) (was-copied k) (rw (c .enum-told .given .1) at (full .draft-keys .ensures))
 
 pub grow-set-spec : {M : Type 1} → statement M
 grow-set-spec =

@@ -1,10 +1,9 @@
 -- The writes stand behind the id and the start, and the reads where the writes end.
-use Rattle.answers.proofs.FoundLaws.{writes-here}
+use Rattle.places.proofs.EndLaws.{writes-here}
 use Rattle.tracks.proofs.SetLaws.{writes-at, reads-at}
 use borrow.Author.Needs.{needs}
 use Rattle.tracks.proofs.set_at.Statement.{statement}
 use Rattle.tracks.proofs.set_at.Tie as tie
-use Rattle.tracks.proofs.set_at.Reads as reads
 
 enum-told : tie.Need-enum-told
 enum-told c = search needs

@@ -1,8 +1,12 @@
--- Each way that a batch ends before its keys are looked at has its law.
+-- Answered in order: malformed, a key too long, nobody active (the list is emptied), as many entries as there may be; else the keys are entered.
 use Rattle.answers.proofs.SaidLaws.{said}
 use Rattle.commits.proofs.BatchLaws.{batch-no-list, batch-over-long, batch-nobody, batch-many, entering}
-use mathlib.Core.Path.{sym, _∙_}
+use Rattle.fields.specs.Fields.{keyList}
+use Rattle.fields.specs.Forms.{formOf}
+use Rattle.fields.specs.declared.Form.{Form}
+use mathlib.Core.Path.{_≡_, sym, _∙_}
 use native.Mathlib.Omega.{arith}
+use denote.Ref.{now}
 use borrow.Author.Needs.{needs}
 use Rattle.commits.proofs.batch.batch_entry.Statement.{statement}
 use Rattle.commits.proofs.batch.batch_entry.Tie as tie
@@ -13,24 +17,16 @@ check-keys-requires c κs = search needs
 enum-told : tie.Need-enum-told
 enum-told c = search needs
 
--- from what follows back to the place that it rests on
-abbrev check-keys-from-done : tie.After-done → tie.After-check-keys
-check-keys-from-done c = c .before .before .before .before .before .before .before .before .before .before
+-- from what follows back to the place that it rests on: where nobody is active, the start
+abbrev nobody : tie.After-done → tie.Then1
+nobody c = c .before .before .before .before .before .before
 
-abbrev enum-told3-from-done : tie.After-done → tie.After-enum-told3
-enum-told3-from-done c = c .before .before .before .before .before .before .before .before
+abbrev start : tie.After-enum-told3 → tie.Start
+start c = c .before .before .before .before .before
 
-abbrev start-from-done : tie.After-done → tie.Start
-start-from-done c = c .before .before .before .before .before .before .before .before .before .before .before .before .before
-
-abbrev then1-from-done : tie.After-done → tie.Then1
-then1-from-done c = c .before .before .before .before .before .before
-
-abbrev check-keys-from-struct-known2 : tie.After-struct-known2 → tie.After-check-keys
-check-keys-from-struct-known2 c = c .before .before .before .before .before
-
-abbrev start-from-struct-known2 : tie.After-struct-known2 → tie.Start
-start-from-struct-known2 c = c .before .before .before .before .before .before .before .before
+-- the keys are a list
+good : (c : tie.After-enum-told3) → Form.Good ≡ formOf (keyList (now (start c .args .list)))
+good c = sym (c .enum-told3 .given .1) ∙ c .before .before .check-keys .ensures
 
 returns : tie.Need-returns
 returns c = batch-no-list (c .before .before .before .before .before .pre) (sym (c .enum-told .given .1) ∙ c .before .before .check-keys .ensures)
@@ -57,13 +53,20 @@ same-length : tie.Need-same-length
 same-length c = search needs
 
 returns-3 : tie.Need-returns-3
-returns-3 c = said (c .done .ensures) (batch-nobody (start-from-done c .pre) (sym (enum-told3-from-done c .enum-told3 .given .1) ∙ check-keys-from-done c .check-keys .ensures) (then1-from-done c .if1 .taken) (c .before .before .before .before .before .larger .ensures) (c .before .before .before .empty-recent-committed-txns .ensures) (omega (arith, start-from-done c .fits .seq)))
+returns-3 c =
+    let none = nobody c in
+    let p = none .before .before in
+    said (c .done .ensures) (batch-nobody (start p .pre) (good p) (none .if1 .taken) (c .before .before .before .before .before .larger .ensures) (c .before .before .before .empty-recent-committed-txns .ensures) (omega (arith, start p .fits .seq)))
 
 returns-4 : tie.Need-returns-4
-returns-4 c = batch-many (start-from-struct-known2 (c .before) .pre) (sym (c .before .before .before .before .enum-told3 .given .1) ∙ check-keys-from-struct-known2 (c .before) .check-keys .ensures) (omega (arith, c .before .before .if1 .left)) (omega (arith, c .if2 .taken))
+returns-4 c =
+    let p = c .before .before .before .before in
+    batch-many (start p .pre) (good p) (omega (arith, c .before .before .if1 .left)) (omega (arith, c .if2 .taken))
 
 enter-keys-requires : tie.Need-enter-keys-requires
-enter-keys-requires c κs = (start-from-struct-known2 (c .before .before) .pre, entering (sym (c .before .before .before .before .before .enum-told3 .given .1) ∙ check-keys-from-struct-known2 (c .before .before) .check-keys .ensures) (c .before .before .before .if1 .left) (omega (arith, c .before .if2 .left)))
+enter-keys-requires c κs =
+    let p = c .before .before .before .before .before in
+    (start p .pre, entering (good p) (c .before .before .before .if1 .left) (omega (arith, c .before .if2 .left)))
 
 same-length-2 : tie.Need-same-length-2
 same-length-2 c = search needs

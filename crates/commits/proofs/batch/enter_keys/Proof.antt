@@ -13,27 +13,25 @@ use borrow.Author.Needs.{needs}
 use Rattle.commits.proofs.batch.enter_keys.Statement.{statement}
 use Rattle.commits.proofs.batch.enter_keys.Tie as tie
 
--- from what follows back to the place that it rests on
-abbrev start-from-draft2 : tie.After-draft2 → tie.Start
-start-from-draft2 c = c .before .before .before .before .before .before .before
+-- from what follows back to the place that it rests on: the count, the entry that was put in, the draft's end, the start
+abbrev count : tie.After-done → tie.After-write-two
+count c = c .before .before .before .before .before .before .before
 
-abbrev start-from-end : tie.After-end → tie.Start
-start-from-end c = c .before .before .before .before .before .before .before .before .before
+abbrev entry : tie.After-write-two → tie.After-put-entry
+entry c = c .before .before .before .before .before
 
-abbrev put-entry-from-advance-committed-seq-arg : tie.After-advance-committed-seq-arg → tie.After-put-entry
-put-entry-from-advance-committed-seq-arg c = c .before .before .before .before .before .before .before .before
+abbrev ended : tie.After-put-entry → tie.After-end
+ended c = c .before .before .before .before .before
 
-abbrev start-from-advance-committed-seq-arg : tie.After-advance-committed-seq-arg → tie.Start
-start-from-advance-committed-seq-arg c = c .before .before .before .before .before .before .before .before .before .before .before .before .before .before .before .before .before .before .before .before .before .before
+abbrev start : tie.After-end → tie.Start
+start c = c .before .before .before .before .before .before .before .before .before
 
-abbrev end-from-done : tie.After-done → tie.After-end
-end-from-done c = c .before .before .before .before .before .before .before .before .before .before .before .before .before .before .before .before .before
-
-abbrev write-two-from-done : tie.After-done → tie.After-write-two
-write-two-from-done c = c .before .before .before .before .before .before .before
+-- the start, seen from where the draft is full
+abbrev start-full : tie.After-draft2 → tie.Start
+start-full c = c .before .before .before .before .before .before .before
 
 -- the set that was drafted
-drafted : (c : tie.After-end) → DraftedIs zeros 0 0 (now (start-from-end c .args .list)) (base .marks - start-from-end c .args .v .marks) (base .bytes - start-from-end c .args .v .bytes) (c .before .before .before .draft-keys .last .0) (Drafted.Set (c .end .given .0 .0) (c .end .given .0 .1 .0))
+drafted : (c : tie.After-end) → let a = start c .args in DraftedIs zeros 0 0 (now (a .list)) (base .marks - a .v .marks) (base .bytes - a .v .bytes) (c .before .before .before .draft-keys .last .0) (Drafted.Set (c .end .given .0 .0) (c .end .given .0 .1 .0))
 drafted c = rw (c .end .given .1) at (c .before .before .before .draft-keys .ensures)
 
 sub-marks : tie.Need-sub-marks
@@ -58,10 +56,15 @@ part-put-entry-start : tie.Need-part-put-entry-start
 part-put-entry-start c = search needs
 
 part-put-entry-end : tie.Need-part-put-entry-end
-part-put-entry-end c = set-inside (start-from-end (c .before .before .before) .pre .0) (start-from-end (c .before .before .before) .pre .1) (drafted (c .before .before .before))
+part-put-entry-end c =
+    let p = c .before .before .before in
+    set-inside (start p .pre .0) (start p .pre .1) (drafted p)
 
 put-entry-requires : tie.Need-put-entry-requires
-put-entry-requires c κs = let r = batch-room (start-from-end (c .before .before .before .before) .pre .0) (start-from-end (c .before .before .before .before) .pre .1) (drafted (c .before .before .before .before)) in (omega (arith, r .0), r .1)
+put-entry-requires c κs =
+    let p = c .before .before .before .before in
+    let r = batch-room (start p .pre .0) (start p .pre .1) (drafted p) in
+    (omega (arith, r .0), r .1)
 
 add-write-two : tie.Need-add-write-two
 add-write-two c = search needs
@@ -70,7 +73,10 @@ write-two-requires : tie.Need-write-two-requires
 write-two-requires c κs = search needs
 
 advance-committed-seq-requires : tie.Need-advance-committed-seq-requires
-advance-committed-seq-requires c κs = room-for-last _ (start-from-advance-committed-seq-arg c .pre .0) (put-entry-from-advance-committed-seq-arg c .put-entry .ensures) (c .before .before .before .write-two .ensures)
+advance-committed-seq-requires c κs =
+    let counted = c .before .before .before in
+    let put = entry counted in
+    room-for-last _ (start (ended put) .pre .0) (put .put-entry .ensures) (counted .write-two .ensures)
 
 done-requires : tie.Need-done-requires
 done-requires c κs = search needs
@@ -82,10 +88,16 @@ same-length : tie.Need-same-length
 same-length c = search needs
 
 returns : tie.Need-returns
-returns c = said (c .done .ensures) (batch-entered (start-from-advance-committed-seq-arg (c .before .before .before .before) .pre .0) (start-from-advance-committed-seq-arg (c .before .before .before .before) .pre .1) (drafted (end-from-done c)) (put-entry-from-advance-committed-seq-arg (c .before .before .before .before) .put-entry .ensures) (write-two-from-done c .write-two .ensures) (c .before .before .before .advance-committed-seq .ensures) (omega (arith, start-from-advance-committed-seq-arg (c .before .before .before .before) .fits .seq)))
+returns c =
+    let counted = count c in
+    let put = entry counted in
+    let p = ended put in
+    said (c .done .ensures) (batch-entered (start p .pre .0) (start p .pre .1) (drafted p) (put .put-entry .ensures) (counted .write-two .ensures) (c .before .before .before .advance-committed-seq .ensures) (omega (arith, start p .fits .seq)))
 
 returns-2 : tie.Need-returns-2
-returns-2 c = batch-over (start-from-draft2 (c .before .before) .pre .0) (start-from-draft2 (c .before .before) .pre .1) (rw (c .enum-told .given .1) at (c .before .before .before .draft-keys .ensures))
+returns-2 c =
+    let p = c .before .before in
+    batch-over (start-full p .pre .0) (start-full p .pre .1) (rw (c .enum-told .given .1) at (p .before .draft-keys .ensures))
 
 pub enter-keys-spec : {M : Type 1} → statement M
 enter-keys-spec =

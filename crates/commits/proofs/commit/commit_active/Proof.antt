@@ -1,65 +1,34 @@
--- Each way that a commit ends has its law: malformed, unknown, alone, full, entered.
+-- Answered in order: malformed, not active, the only one active (the list is emptied), as many entries as there may be; else its writes enter.
 use Rattle.answers.proofs.SaidLaws.{said}
 use Rattle.answers.proofs.SeenLaws.{active-rows}
 use Rattle.commits.proofs.CommitLaws.{commit-refused, commit-unknown, commit-only, commit-many, commit-leaving, commit-entered}
 use Rattle.answers.proofs.LeftLaws.{here-bounds}
 use Rattle.places.specs.Finds.{Found}
 use Rattle.places.specs.declared.finds.Place.{Place}
-use mathlib.Core.Path.{subst}
+use mathlib.Core.Path.{_≡_, subst}
 use native.Mathlib.Omega.{arith}
 use denote.Ref.{now}
+use lib.ListN.{length}
+use Rattle.layout.specs.Offsets.{idSize}
 use borrow.Author.Needs.{needs}
 use Rattle.commits.proofs.commit.commit_active.Statement.{statement}
 use Rattle.commits.proofs.commit.commit_active.Tie as tie
 
--- from what follows back to the place that it rests on
-abbrev start-from-at : tie.After-at → tie.Start
-start-from-at c = c .before .before .before .before .before .before .before
+-- from what follows back to the place that it rests on: the counts, the entry, where nobody else or others are active, the start
+abbrev counted : tie.After-done2 → tie.After-write-two2
+counted c = c .before .before .before .before .before .before .before
 
-abbrev at-from-done : tie.After-done → tie.After-at
-at-from-done c = c .before .before .before .before .before .before .before .before
+abbrev entered : tie.After-write-two → tie.After-enter-writes
+entered c = c .before .before .before .before
 
-abbrev else1-from-done : tie.After-done → tie.Else1
-else1-from-done c = c .before .before .before .before .before .before .before .before .before .before .before .before
+abbrev others : tie.After-enter-writes → tie.Else2
+others c = c .before .before .before
 
-abbrev start-from-done : tie.After-done → tie.Start
-start-from-done c = c .before .before .before .before .before .before .before .before .before .before .before .before .before .before .before
+abbrev alone : tie.After-done → tie.Then2
+alone c = c .before .before .before .before .before .before
 
-abbrev then2-from-done : tie.After-done → tie.Then2
-then2-from-done c = c .before .before .before .before .before .before
-
-abbrev else1-from-then3 : tie.Then3 → tie.Else1
-else1-from-then3 c = c .before .before .before .before .before .before .before
-
-abbrev at-from-write-two-arg2 : tie.After-write-two-arg2 → tie.After-at
-at-from-write-two-arg2 c = c .before .before .before .before .before .before .before .before .before .before .before .before
-
-abbrev start-from-write-two-arg2 : tie.After-write-two-arg2 → tie.Start
-start-from-write-two-arg2 c = c .before .before .before .before .before .before .before .before .before .before .before .before .before .before .before .before .before .before .before
-
-abbrev at-from-done2 : tie.After-done2 → tie.After-at
-at-from-done2 c = c .before .before .before .before .before .before .before .before .before .before .before .before .before .before .before .before .before .before .before .before
-
-abbrev enter-writes-from-done2 : tie.After-done2 → tie.After-enter-writes
-enter-writes-from-done2 c = c .before .before .before .before .before .before .before .before .before .before .before .before .before .before .before
-
-abbrev write-two-from-done2 : tie.After-done2 → tie.After-write-two
-write-two-from-done2 c = c .before .before .before .before .before .before .before .before .before .before .before
-
-abbrev write-two2-from-done2 : tie.After-done2 → tie.After-write-two2
-write-two2-from-done2 c = c .before .before .before .before .before .before .before
-
-abbrev else1-from-done2 : tie.After-done2 → tie.Else1
-else1-from-done2 c = c .before .before .before .before .before .before .before .before .before .before .before .before .before .before .before .before .before .before .before .before .before .before .before .before
-
-abbrev else2-from-done2 : tie.After-done2 → tie.Else2
-else2-from-done2 c = c .before .before .before .before .before .before .before .before .before .before .before .before .before .before .before .before .before .before
-
-abbrev else3-from-done2 : tie.After-done2 → tie.Else3
-else3-from-done2 c = c .before .before .before .before .before .before .before .before .before .before .before .before .before .before .before .before .before
-
-abbrev start-from-done2 : tie.After-done2 → tie.Start
-start-from-done2 c = c .before .before .before .before .before .before .before .before .before .before .before .before .before .before .before .before .before .before .before .before .before .before .before .before .before .before .before
+abbrev start : tie.After-at → tie.Start
+start c = c .before .before .before .before .before .before .before
 
 -- where the id was not found, and the start seen from there
 abbrev unknown : tie.After-absent → tie.After-enum-told
@@ -69,7 +38,10 @@ abbrev start-unknown : tie.After-enum-told → tie.Start
 start-unknown c = c .before .before .before .before .before .before .before
 
 -- the transaction that was found
-found : (c : tie.After-at) → Found (now (start-from-at c .args .room)) (start-from-at c .args .v .middle) (start-from-at c .args .v .active) (now (start-from-at c .args .id)) (Place.Here (c .at .given .0 .0) (c .at .given .0 .1 .0))
+valid : (c : tie.After-at) → length (now (start c .args .id)) ≡ idSize
+valid c = c .before .before .before .before .if1 .left
+
+found : (c : tie.After-at) → let a = start c .args in Found (now (a .room)) (a .v .middle) (a .v .active) (now (a .id)) (Place.Here (c .at .given .0 .0) (c .at .given .0 .1 .0))
 found c = rw (c .at .given .1) at (c .before .before .find-txn .ensures)
 
 returns : tie.Need-returns
@@ -94,16 +66,23 @@ same-length : tie.Need-same-length
 same-length c = search needs
 
 returns-2 : tie.Need-returns-2
-returns-2 c = said (c .done .ensures) (commit-only (start-from-done c .pre) (else1-from-done c .if1 .left) (found (at-from-done c)) (then2-from-done c .if2 .taken) (c .before .before .before .before .before .larger .ensures) (c .before .before .before .empty-recent-committed-txns .ensures) (omega (arith, start-from-done c .fits .seq)))
+returns-2 c =
+    let one = alone c in
+    let p = one .before .before in
+    said (c .done .ensures) (commit-only (start p .pre) (valid p) (found p) (one .if2 .taken) (c .before .before .before .before .before .larger .ensures) (c .before .before .before .empty-recent-committed-txns .ensures) (omega (arith, start p .fits .seq)))
 
 same-length-2 : tie.Need-same-length-2
 same-length-2 c = search needs
 
 returns-3 : tie.Need-returns-3
-returns-3 c = commit-many (start-from-at (c .before .before .before) .pre) (else1-from-then3 c .if1 .left) (found (c .before .before .before)) (c .before .if2 .left) (omega (arith, c .if3 .taken))
+returns-3 c =
+    let p = c .before .before .before in
+    commit-many (start p .pre) (valid p) (found p) (c .before .if2 .left) (omega (arith, c .if3 .taken))
 
 enter-writes-requires : tie.Need-enter-writes-requires
-enter-writes-requires c κs = commit-leaving (start-from-at (c .before .before .before .before) .pre) (found (c .before .before .before .before))
+enter-writes-requires c κs =
+    let p = c .before .before .before .before in
+    commit-leaving (start p .pre) (found p)
 
 add-write-two : tie.Need-add-write-two
 add-write-two c = search needs
@@ -112,7 +91,9 @@ write-two-requires : tie.Need-write-two-requires
 write-two-requires c κs = search needs
 
 sub-write-two : tie.Need-sub-write-two
-sub-write-two c = here-bounds (start-from-write-two-arg2 c .pre) (found (at-from-write-two-arg2 c)) .some
+sub-write-two c =
+    let p = others (entered (c .before .before .before)) .before .before in
+    here-bounds (start p .pre) (found p) .some
 
 write-two-requires-2 : tie.Need-write-two-requires-2
 write-two-requires-2 c κs = search needs
@@ -136,7 +117,13 @@ same-length-3 : tie.Need-same-length-3
 same-length-3 c = search needs
 
 returns-4 : tie.Need-returns-4
-returns-4 c = said (c .done2 .ensures) (commit-entered (start-from-done2 c .pre) (else1-from-done2 c .if1 .left) (found (at-from-done2 c)) (else2-from-done2 c .if2 .left) (omega (arith, else3-from-done2 c .if3 .left)) (enter-writes-from-done2 c .enter-writes .ensures) (write-two-from-done2 c .write-two .ensures) (write-two2-from-done2 c .write-two2 .ensures) (c .before .before .before .advance-committed-seq .ensures) (omega (arith, start-from-done2 c .fits .seq)))
+returns-4 c =
+    let active = counted c in
+    let entries = active .before .before .before .before in
+    let entry = entered entries in
+    let more = others entry in
+    let p = more .before .before in
+    said (c .done2 .ensures) (commit-entered (start p .pre) (valid p) (found p) (more .if2 .left) (omega (arith, entry .before .before .if3 .left)) (entry .enter-writes .ensures) (entries .write-two .ensures) (active .write-two2 .ensures) (c .before .before .before .advance-committed-seq .ensures) (omega (arith, start p .fits .seq)))
 
 same-length-4 : tie.Need-same-length-4
 same-length-4 c = search needs

@@ -6,34 +6,24 @@ use Rattle.answers.proofs.LeftLaws.{Bounds, here-bounds}
 use Rattle.commits.proofs.PrunableLaws.{seen-prunable}
 use Rattle.places.specs.Finds.{Found}
 use Rattle.places.specs.declared.finds.Place.{Place}
-use mathlib.Core.Path.{subst}
+use mathlib.Core.Path.{_≡_, subst}
 use native.Mathlib.Omega.{arith}
 use denote.Ref.{now}
+use lib.ListN.{length}
+use Rattle.layout.specs.Offsets.{idSize}
 use borrow.Author.Needs.{needs}
 use Rattle.commits.proofs.drop.drop_active.Statement.{statement}
 use Rattle.commits.proofs.drop.drop_active.Tie as tie
 
--- from what follows back to the place that it rests on
-abbrev start-from-find-txn : tie.After-find-txn → tie.Start
-start-from-find-txn c = c .before .before .before .before .before
+-- from what follows back to the place that it rests on: the removal, where the id was found, the start
+abbrev removed : tie.After-recycle-recent-committed-txns-arg → tie.After-remove
+removed c = c .before .before .before .before .before .before .before
 
-abbrev at-from-write-two-arg : tie.After-write-two-arg → tie.After-at
-at-from-write-two-arg c = c .before .before .before .before .before .before
+abbrev owner : tie.After-remove → tie.After-at
+owner c = c .before .before .before
 
-abbrev at-from-recycle-recent-committed-txns-arg : tie.After-recycle-recent-committed-txns-arg → tie.After-at
-at-from-recycle-recent-committed-txns-arg c = c .before .before .before .before .before .before .before .before .before .before
-
-abbrev remove-from-recycle-recent-committed-txns-arg : tie.After-recycle-recent-committed-txns-arg → tie.After-remove
-remove-from-recycle-recent-committed-txns-arg c = c .before .before .before .before .before .before .before
-
-abbrev else1-from-recycle-recent-committed-txns-arg : tie.After-recycle-recent-committed-txns-arg → tie.Else1
-else1-from-recycle-recent-committed-txns-arg c = c .before .before .before .before .before .before .before .before .before .before .before .before .before .before
-
-abbrev start-from-recycle-recent-committed-txns-arg : tie.After-recycle-recent-committed-txns-arg → tie.Start
-start-from-recycle-recent-committed-txns-arg c = c .before .before .before .before .before .before .before .before .before .before .before .before .before .before .before .before .before
-
-abbrev write-two-from-done : tie.After-done → tie.After-write-two
-write-two-from-done c = c .before .before .before .before .before .before .before
+abbrev start : tie.After-at → tie.Start
+start c = c .before .before .before .before .before .before .before
 
 -- where the id was not found, and the start seen from there
 abbrev unknown : tie.After-absent → tie.After-enum-told
@@ -43,11 +33,14 @@ abbrev start-unknown : tie.After-enum-told → tie.Start
 start-unknown c = c .before .before .before .before .before .before .before
 
 -- the transaction that was found
-found : (c : tie.After-at) → Found (now (start-from-find-txn (c .before .before) .args .room)) (start-from-find-txn (c .before .before) .args .v .middle) (start-from-find-txn (c .before .before) .args .v .active) (now (start-from-find-txn (c .before .before) .args .id)) (Place.Here (c .at .given .0 .0) (c .at .given .0 .1 .0))
+valid : (c : tie.After-at) → length (now (start c .args .id)) ≡ idSize
+valid c = c .before .before .before .before .if1 .left
+
+found : (c : tie.After-at) → let a = start c .args in Found (now (a .room)) (a .v .middle) (a .v .active) (now (a .id)) (Place.Here (c .at .given .0 .0) (c .at .given .0 .1 .0))
 found c = rw (c .at .given .1) at (c .before .before .find-txn .ensures)
 
-bounds : (c : tie.After-at) → Bounds (start-from-find-txn (c .before .before) .pre) (found c)
-bounds c = here-bounds (start-from-find-txn (c .before .before) .pre) (found c)
+bounds : (c : tie.After-at) → Bounds (start c .pre) (found c)
+bounds c = here-bounds (start c .pre) (found c)
 
 returns : tie.Need-returns
 returns c = drop-refused (c .before .before .before .pre) (c .if1 .taken)
@@ -65,19 +58,21 @@ remove-requires : tie.Need-remove-requires
 remove-requires c κs = let b = bounds (c .before .before) in (omega (arith, b .from, b .within), b .inside)
 
 sub-write-two : tie.Need-sub-write-two
-sub-write-two c = bounds (at-from-write-two-arg c) .some
+sub-write-two c = omega (arith, bounds (owner (c .before .before .before)) .some)
 
 write-two-requires : tie.Need-write-two-requires
 write-two-requires c κs = search needs
 
 sub-recycle-recent-committed-txns : tie.Need-sub-recycle-recent-committed-txns
-sub-recycle-recent-committed-txns c = omega (arith, bounds (at-from-recycle-recent-committed-txns-arg c) .some)
+sub-recycle-recent-committed-txns c = omega (arith, bounds (owner (removed c)) .some)
 
 sub-recycle-recent-committed-txns-2 : tie.Need-sub-recycle-recent-committed-txns-2
-sub-recycle-recent-committed-txns-2 c = omega (arith, bounds (at-from-recycle-recent-committed-txns-arg c) .within)
+sub-recycle-recent-committed-txns-2 c = omega (arith, bounds (owner (removed c)) .within)
 
 recycle-recent-committed-txns-requires : tie.Need-recycle-recent-committed-txns-requires
-recycle-recent-committed-txns-requires c κs = drop-prunable (start-from-recycle-recent-committed-txns-arg c .pre) (else1-from-recycle-recent-committed-txns-arg c .if1 .left) (found (at-from-recycle-recent-committed-txns-arg c)) (remove-from-recycle-recent-committed-txns-arg c .remove .ensures) (c .before .before .before .write-two .ensures)
+recycle-recent-committed-txns-requires c κs =
+    let p = owner (removed c) in
+    drop-prunable (start p .pre) (valid p) (found p) (removed c .remove .ensures) (c .before .before .before .write-two .ensures)
 
 done-requires : tie.Need-done-requires
 done-requires c κs = search needs
@@ -86,7 +81,7 @@ enum-told : tie.Need-enum-told
 enum-told c = search needs
 
 recycle-recent-committed-txns-requires-2 : tie.Need-recycle-recent-committed-txns-requires-2
-recycle-recent-committed-txns-requires-2 c κs = seen-prunable (start-from-find-txn (c .before .before .before) .pre)
+recycle-recent-committed-txns-requires-2 c κs = seen-prunable (start-unknown (c .before) .pre)
 
 absent-requires : tie.Need-absent-requires
 absent-requires c κs = search needs
@@ -95,7 +90,10 @@ same-length : tie.Need-same-length
 same-length c = search needs
 
 returns-2 : tie.Need-returns-2
-returns-2 c = said (c .done .ensures) (drop-known (start-from-recycle-recent-committed-txns-arg (c .before .before .before .before) .pre) (else1-from-recycle-recent-committed-txns-arg (c .before .before .before .before) .if1 .left) (found (at-from-recycle-recent-committed-txns-arg (c .before .before .before .before))) (remove-from-recycle-recent-committed-txns-arg (c .before .before .before .before) .remove .ensures) (write-two-from-done c .write-two .ensures) (c .before .before .before .recycle-recent-committed-txns .ensures))
+returns-2 c =
+    let prune = c .before .before .before .before in
+    let p = owner (removed prune) in
+    said (c .done .ensures) (drop-known (start p .pre) (valid p) (found p) (removed prune .remove .ensures) (prune .before .before .before .write-two .ensures) (c .before .before .before .recycle-recent-committed-txns .ensures))
 
 same-length-2 : tie.Need-same-length-2
 same-length-2 c = search needs

@@ -5,24 +5,16 @@ use borrow.Author.Needs.{needs}
 use Rattle.edits.proofs.leaving.recycle_recent_committed_txns.Statement.{statement}
 use Rattle.edits.proofs.leaving.recycle_recent_committed_txns.Tie as tie
 
--- from what follows back to the place that it rests on
-abbrev start-from-slice-known2 : tie.After-slice-known2 → tie.Start
-start-from-slice-known2 c = c .before .before .before .before .before .before
+-- from what follows back to the place that it rests on: the gap that was closed, the start
+abbrev closed : tie.After-slice-known5 → tie.After-remove
+closed c = c .before .before .before .before .before .before
 
-abbrev start-from-remove-arg : tie.After-remove-arg → tie.Start
-start-from-remove-arg c = c .before .before .before .before .before .before .before .before .before
+abbrev start : tie.After-prune-entries → tie.Start
+start c = c .before .before .before .before .before .before
 
-abbrev least-start-from-slice-known5 : tie.After-slice-known5 → tie.After-least-start
-least-start-from-slice-known5 c = c .before .before .before .before .before .before .before .before .before .before .before .before
-
-abbrev prune-entries-from-slice-known5 : tie.After-slice-known5 → tie.After-prune-entries
-prune-entries-from-slice-known5 c = c .before .before .before .before .before .before .before .before .before .before
-
-abbrev remove-from-slice-known5 : tie.After-slice-known5 → tie.After-remove
-remove-from-slice-known5 c = c .before .before .before .before .before .before
-
-abbrev else1-from-slice-known5 : tie.After-slice-known5 → tie.Else1
-else1-from-slice-known5 c = c .before .before .before .before .before .before .before .before .before .before .before .before .before .before
+-- the start, seen from where the list was emptied
+abbrev start-emptied : tie.After-slice-known2 → tie.Start
+start-emptied c = c .before .before .before .before .before .before
 
 empty-recent-committed-txns-requires : tie.Need-empty-recent-committed-txns-requires
 empty-recent-committed-txns-requires c κs = recycle-room (c .before .before .before .pre)
@@ -31,7 +23,7 @@ same-length : tie.Need-same-length
 same-length c = search needs
 
 returns : tie.Need-returns
-returns c = recycle-nobody (start-from-slice-known2 c .pre) (c .before .before .before .before .if1 .taken) (c .before .before .empty-recent-committed-txns .ensures)
+returns c = recycle-nobody (start-emptied c .pre) (c .before .before .before .before .if1 .taken) (c .before .before .empty-recent-committed-txns .ensures)
 
 least-start-requires : tie.Need-least-start-requires
 least-start-requires c κs = recycle-active (c .before .before .before .pre)
@@ -40,10 +32,15 @@ prune-entries-requires : tie.Need-prune-entries-requires
 prune-entries-requires c κs = recycle-entries (c .before .before .before .before .before .pre)
 
 sub-remove : tie.Need-sub-remove
-sub-remove c = recycle-inside (start-from-remove-arg c .pre) _ (c .before .before .before .prune-entries .ensures) .0
+sub-remove c =
+    let kept = c .before .before .before in
+    recycle-inside (start kept .pre) _ (kept .prune-entries .ensures) .0
 
 remove-requires : tie.Need-remove-requires
-remove-requires c κs = let i = recycle-inside (start-from-remove-arg c .pre) _ (c .before .before .before .prune-entries .ensures) in (omega (arith, i .0, i .1 .0), i .1 .1)
+remove-requires c κs =
+    let kept = c .before .before .before in
+    let i = recycle-inside (start kept .pre) _ (kept .prune-entries .ensures) in
+    (omega (arith, i .0, i .1 .0), i .1 .1)
 
 write-two-requires : tie.Need-write-two-requires
 write-two-requires c κs = search needs
@@ -52,7 +49,11 @@ same-length-2 : tie.Need-same-length-2
 same-length-2 c = search needs
 
 returns-2 : tie.Need-returns-2
-returns-2 c = recycle-some _ (omega (arith, else1-from-slice-known5 c .if1 .left)) (least-start-from-slice-known5 c .least-start .ensures) (prune-entries-from-slice-known5 c .prune-entries .ensures) (remove-from-slice-known5 c .remove .ensures) (c .before .before .write-two .ensures)
+returns-2 c =
+    let gap = closed c in
+    let kept = gap .before .before .before .before in
+    let least = kept .before .before in
+    recycle-some _ (omega (arith, least .before .before .if1 .left)) (least .least-start .ensures) (kept .prune-entries .ensures) (gap .remove .ensures) (c .before .before .write-two .ensures)
 
 pub recycle-recent-committed-txns-spec : {M : Type 1} → statement M
 recycle-recent-committed-txns-spec =

@@ -5,8 +5,7 @@ use native.Mathlib.Omega.{arith}
 use borrow.Author.Needs.{needs}
 use denote.Ref.{now}
 use lib.ListN.{length}
-use Rattle.machine.specs.State.{base}
-use Rattle.layout.specs.Offsets.{writesAt}
+use Rattle.layout.specs.Offsets.{writesAt, anyLength}
 use Rattle.layout.specs.Records.{txnForm}
 use Rattle.places.specs.declared.cursor.Cursor.{Cursor}
 use Rattle.places.proofs.SplitLaws.{Turn, turn, turn-here}
@@ -31,7 +30,7 @@ abbrev cursor : InTurn → Cursor
 cursor c = c .before .before .loop .c
 
 -- the transaction whose turn it is
-this : (c : InTurn) → Turn (txnForm (base .key)) (Lower (start c .args .most) (c .before .before .loop .low)) (now (start c .args .room)) (start c .args .at) (start c .args .n) (cursor c)
+this : (c : InTurn) → Turn (txnForm anyLength) (Lower (start c .args .most) (c .before .before .loop .low)) (now (start c .args .room)) (start c .args .at) (start c .args .n) (cursor c)
 this c = turn _ _ (c .before .before .loop .inv) (c .if1 .taken)
 
 inside : (c : InTurn) → cursor c .at + writesAt ≤ length (now (start c .args .room))

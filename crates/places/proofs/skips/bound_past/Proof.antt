@@ -13,13 +13,13 @@ add-read-two : tie.Need-add-read-two
 add-read-two c = search needs
 
 read-two-requires : tie.Need-read-two-requires
-read-two-requires c κs = open-key _ (open-bound _ (c .before .pre .part) .key) .length-at .inside
+read-two-requires c κs = open-key _ (open-bound _ (c .before .pre .fills) .key) .length-at .inside
 
 add-result-2 : tie.Need-add-result-2
-add-result-2 c = omega (arith, bound-end _ (c .before .before .pre .part) (c .read-two .ensures))
+add-result-2 c = omega (arith, bound-end _ (c .before .before .pre .fills) (c .read-two .ensures))
 
 returns : tie.Need-returns
-returns c = ends-at _ (c .before .before .pre .part) (bound-end _ (c .before .before .pre .part) (c .read-two .ensures))
+returns c = ends-at _ (c .before .before .pre .fills) (bound-end _ (c .before .before .pre .fills) (c .read-two .ensures))
 
 pub bound-past-spec : {M : Type 1} → statement M
 bound-past-spec =

@@ -9,10 +9,10 @@ add-set-past : tie.Need-add-set-past
 add-set-past c = search needs
 
 set-past-requires : tie.Need-set-past-requires
-set-past-requires c κs = here-of _ (open-entry _ (c .before .pre .part) .set)
+set-past-requires c κs = here-of _ (open-entry _ (c .before .pre .fills) .set)
 
 returns : tie.Need-returns
-returns c = let p = c .before .before .pre .part in ends-as _ _ p (open-entry _ p .set) (c .set-past .ensures)
+returns c = let p = c .before .before .pre .fills in ends-as _ _ p (open-entry _ p .set) (c .set-past .ensures)
 
 pub entry-past-spec : {M : Type 1} → statement M
 entry-past-spec = tie.close (tie.spec add-set-past set-past-requires returns)

@@ -10,13 +10,13 @@ add-result : tie.Need-add-result
 add-result c = search needs
 
 read-two-requires : tie.Need-read-two-requires
-read-two-requires c κs = open-key _ (c .before .pre .part) .length-at .inside
+read-two-requires c κs = open-key _ (c .before .pre .fills) .length-at .inside
 
 add-result-2 : tie.Need-add-result-2
-add-result-2 c = omega (arith, key-end _ (c .before .before .pre .part) (c .read-two .ensures))
+add-result-2 c = omega (arith, key-end _ (c .before .before .pre .fills) (c .read-two .ensures))
 
 returns : tie.Need-returns
-returns c = ends-at _ (c .before .before .pre .part) (key-end _ (c .before .before .pre .part) (c .read-two .ensures))
+returns c = ends-at _ (c .before .before .pre .fills) (key-end _ (c .before .before .pre .fills) (c .read-two .ensures))
 
 pub key-past-spec : {M : Type 1} → statement M
 key-past-spec = tie.close (tie.spec add-result read-two-requires add-result-2 returns)

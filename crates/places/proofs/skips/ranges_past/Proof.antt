@@ -1,7 +1,7 @@
 -- The cursor stands before records that end where the list does.
 use native.Mathlib.Omega.{arith}
 use mathlib.Core.Path.{ap}
-use Rattle.machine.specs.State.{base}
+use Rattle.layout.specs.Offsets.{anyLength}
 use Rattle.layout.specs.Keys.{rangeForm, rangesForm}
 use Rattle.layout.proofs.OpenLaws.{open-ranges}
 use Rattle.places.specs.declared.cursor.Cursor.{Cursor}
@@ -10,13 +10,13 @@ use Rattle.places.proofs.skips.ranges_past.Statement.{statement}
 use Rattle.places.proofs.skips.ranges_past.Tie as tie
 
 abbrev Inv-loop : tie.InvT-loop
-Inv-loop room at c₀ c = Walk (rangeForm (base .key)) (rangesForm (base .key)) room at c
+Inv-loop room at c₀ c = Walk (rangeForm anyLength) (rangesForm anyLength) room at c
 
 abbrev μ-loop : tie.MeasureT-loop
 μ-loop room at c₀ c = c .left
 
 of-list-requires : tie.Need-of-list-requires Inv-loop μ-loop
-of-list-requires c κs = open-ranges _ (c .before .pre .part) .count-at .inside
+of-list-requires c κs = open-ranges _ (c .before .pre .fills) .count-at .inside
 
 loop-holds : tie.Need-loop-holds Inv-loop μ-loop
 loop-holds c = ranges-walk _ (c .before .before .pre) (c .of-list .ensures)

@@ -1,31 +1,25 @@
 -- Writes, reads and ranges follow each other, and the transaction ends where the ranges do.
-use Rattle.layout.proofs.OpenLaws.{open-txn}
-use Rattle.places.proofs.EndLaws.{here-of, ends-as, part-after}
+use Rattle.places.proofs.EndLaws.{writes-here, reads-here, ranges-fills, ranges-here, ends-as}
 use borrow.Author.Needs.{needs}
 use Rattle.places.proofs.skips.txn_past.Statement.{statement}
 use Rattle.places.proofs.skips.txn_past.Tie as tie
-use Rattle.places.proofs.skips.txn_past.Reads as reads
 
 add-set-past : tie.Need-add-set-past
 add-set-past c = search needs
 
 set-past-requires : tie.Need-set-past-requires
-set-past-requires c κs = here-of _ (open-txn _ (c .before .pre .part) .writes)
+set-past-requires c κs = writes-here (c .before .pre)
 
 set-past-requires-2 : tie.Need-set-past-requires-2
-set-past-requires-2 c κs = let o = open-txn _ (c .before .before .pre .part) in here-of _ (part-after _ _ (c .set-past .ensures) (o .writes) (o .reads))
+set-past-requires-2 c κs = reads-here (c .before .before .pre) (c .set-past .ensures)
 
 ranges-past-requires : tie.Need-ranges-past-requires
-ranges-past-requires c κs =
-    let o = open-txn _ (c .before .before .before .pre .part) in
-    here-of _ (part-after _ _ (c .set-past2 .ensures) (part-after _ _ (c .before .set-past .ensures) (o .writes) (o .reads)) (o .ranges))
+ranges-past-requires c κs = ranges-here (c .before .before .before .pre) (c .before .set-past .ensures) (c .set-past2 .ensures)
 
 returns : tie.Need-returns
 returns c =
-    let p = c .before .before .before .before .pre .part in
-    let o = open-txn _ p in
-    let reads = part-after _ _ (c .before .before .set-past .ensures) (o .writes) (o .reads) in
-    ends-as _ _ p (part-after _ _ (c .before .set-past2 .ensures) reads (o .ranges)) (c .ranges-past .ensures)
+    let p = c .before .before .before .before .pre .fills in
+    ends-as _ _ p (ranges-fills p (c .before .before .set-past .ensures) (c .before .set-past2 .ensures)) (c .ranges-past .ensures)
 
 pub txn-past-spec : {M : Type 1} → statement M
 txn-past-spec =

@@ -1,4 +1,4 @@
--- Either way the answer is `asBound`.
+-- A bound ends where its key does, and is cut where its key is (`boundWalked`).
 use borrow.Author.Needs.{needs}
 use Rattle.room.proofs.range.bound_of.Statement.{statement}
 use Rattle.room.proofs.range.bound_of.Tie as tie

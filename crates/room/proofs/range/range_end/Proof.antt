@@ -36,7 +36,7 @@ enum-known-start : tie.Need-enum-known-start
 enum-known-start c = search needs
 
 bound-end-requires-2 : tie.Need-bound-end-requires-2
-bound-end-requires-2 c κs = first (c .before) .part .inside
+bound-end-requires-2 c κs = first (c .before) .fills .inside
 
 enum-told-2 : tie.Need-enum-told-2
 enum-told-2 c = search needs
@@ -48,7 +48,7 @@ add-a : tie.Need-add-a
 add-a c = search needs
 
 add-b : tie.Need-add-b
-add-b c = omega (arith, second (c .before) .far, second (c .before) .part .inside)
+add-b c = omega (arith, second (c .before) .far, second (c .before) .fills .inside)
 
 new-requires : tie.Need-new-requires
 new-requires c κs = search needs
@@ -60,7 +60,7 @@ part-non-empty-start : tie.Need-part-non-empty-start
 part-non-empty-start c = omega (arith, first (start-from-new c) .far)
 
 part-non-empty-end : tie.Need-part-non-empty-end
-part-non-empty-end c = omega (arith, first (start-from-new c) .part .inside)
+part-non-empty-end c = omega (arith, first (start-from-new c) .fills .inside)
 
 sub-non-empty-2 : tie.Need-sub-non-empty-2
 sub-non-empty-2 c = second (c .before .before .before) .far
@@ -69,7 +69,7 @@ part-non-empty-start-2 : tie.Need-part-non-empty-start-2
 part-non-empty-start-2 c = omega (arith, second (c .before .before .before) .far)
 
 part-non-empty-end-2 : tie.Need-part-non-empty-end-2
-part-non-empty-end-2 c = omega (arith, second (c .before .before .before) .part .inside)
+part-non-empty-end-2 c = omega (arith, second (c .before .before .before) .fills .inside)
 
 non-empty-requires : tie.Need-non-empty-requires
 non-empty-requires c κs = search needs

@@ -1,4 +1,4 @@
--- An entry is a sequence and a set; its highest number is the sequence.
+-- An entry is a sequence and a set, and cut where either is; its highest number is the sequence.
 use borrow.Author.Needs.{needs}
 use Rattle.room.proofs.EntryLaws.{entry-short, entry-cut, entry-got}
 use Rattle.room.proofs.record.entry_end.Statement.{statement}

@@ -69,7 +69,7 @@ enum-known-w : tie.Need-enum-known-w
 enum-known-w c = search needs
 
 set-end-requires-2 : tie.Need-set-end-requires-2
-set-end-requires-2 c κs = written (c .before) .part .inside
+set-end-requires-2 c κs = written (c .before) .fills .inside
 
 enum-told-2 : tie.Need-enum-told-2
 enum-told-2 c = search needs
@@ -78,7 +78,7 @@ enum-known-r : tie.Need-enum-known-r
 enum-known-r c = search needs
 
 ranges-end-requires : tie.Need-ranges-end-requires
-ranges-end-requires c κs = readOnes (c .before) .part .inside
+ranges-end-requires c κs = readOnes (c .before) .fills .inside
 
 enum-told-3 : tie.Need-enum-told-3
 enum-told-3 c = search needs

@@ -7,7 +7,7 @@ use denote.Ref.{now}
 use lib.ListN.{length}
 use Rattle.script.proofs.LineLaws.{answer-short}
 use Rattle.script.specs.declared.records.Next.{Next}
-use Rattle.script.specs.Records.{NextIs}
+use Rattle.script.specs.Records.{NextRecordIs}
 use Rattle.script.specs.Played.{FedTo}
 use Rattle.script.proofs.PlayedLaws.{fed-none, fed-on}
 use Rattle.script.proofs.feed.feed.Statement.{statement}
@@ -42,7 +42,7 @@ abbrev before-room : tie.After-room Inv-loop μ-loop → tie.After-serve-record 
 before-room c = c .before
 
 -- the record that was read in this turn
-seen : (c : tie.After-tag Inv-loop μ-loop) → NextIs (now (start-tag c .args .bytes)) (c .before .before .before .before .loop .at) (Next.Whole (c .tag .given .0 .0) (c .tag .given .0 .1 .0) (c .tag .given .0 .1 .1 .0))
+seen : (c : tie.After-tag Inv-loop μ-loop) → NextRecordIs (now (start-tag c .args .bytes)) (c .before .before .before .before .loop .at) (Next.Whole (c .tag .given .0 .0) (c .tag .given .0 .1 .0) (c .tag .given .0 .1 .1 .0))
 seen c = rw (c .tag .given .1) at (c .before .before .next-record .ensures)
 
 loop-holds : tie.Need-loop-holds Inv-loop μ-loop

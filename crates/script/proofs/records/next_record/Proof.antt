@@ -1,4 +1,4 @@
--- Each way out has its law in RecordLaws, by the bytes that were read before it.
+-- The bytes decide in order: none, the tag, the head, the length, the payload; else the record is whole.
 use native.Mathlib.Omega.{arith}
 use Rattle.script.proofs.RecordLaws.{none-left, tag-low, tag-high, head-cut, too-long, payload-cut, record-here}
 use borrow.Author.Needs.{needs}

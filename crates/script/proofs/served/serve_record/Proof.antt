@@ -7,11 +7,11 @@ use Rattle.script.proofs.served.serve_record.Tie as tie
 new-transaction-requires : tie.Need-new-transaction-requires
 new-transaction-requires c κs = search needs
 
-serve-writes-requires : tie.Need-serve-writes-requires
-serve-writes-requires c κs = search needs
+serve-keys-requires : tie.Need-serve-keys-requires
+serve-keys-requires c κs = search needs
 
-serve-reads-requires : tie.Need-serve-reads-requires
-serve-reads-requires c κs = search needs
+serve-keys-requires-2 : tie.Need-serve-keys-requires-2
+serve-keys-requires-2 c κs = search needs
 
 serve-range-requires : tie.Need-serve-range-requires
 serve-range-requires c κs = search needs
@@ -48,13 +48,13 @@ same-length-2 : tie.Need-same-length-2
 same-length-2 c = search needs
 
 returns-2 : tie.Need-returns-2
-returns-2 c = served-as (tag-as (start-shared-slice-known (c .before .before .before .before .before) .args .payload .now) (c .before .before .before .before .match .keys2)) (c .before .before .serve-writes .ensures)
+returns-2 c = served-as (tag-as (start-shared-slice-known (c .before .before .before .before .before) .args .payload .now) (c .before .before .before .before .match .keys2)) (c .before .before .serve-keys .ensures)
 
 same-length-3 : tie.Need-same-length-3
 same-length-3 c = search needs
 
 returns-3 : tie.Need-returns-3
-returns-3 c = served-as (tag-as (start-shared-slice-known (c .before .before .before .before .before) .args .payload .now) (c .before .before .before .before .match .keys3)) (c .before .before .serve-reads .ensures)
+returns-3 c = served-as (tag-as (start-shared-slice-known (c .before .before .before .before .before) .args .payload .now) (c .before .before .before .before .match .keys3)) (c .before .before .serve-keys2 .ensures)
 
 same-length-4 : tie.Need-same-length-4
 same-length-4 c = search needs
@@ -103,8 +103,8 @@ serve-record-spec =
     tie.close
     (tie.spec
     new-transaction-requires
-    serve-writes-requires
-    serve-reads-requires
+    serve-keys-requires
+    serve-keys-requires-2
     serve-range-requires
     check-has-conflict-requires
     serve-commit-requires

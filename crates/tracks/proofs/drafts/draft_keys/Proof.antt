@@ -16,12 +16,12 @@ part-insert-all-start c = search needs
 part-insert-all-end : tie.Need-part-insert-all-end
 part-insert-all-end c = search needs
 
--- from a named place back to the one before it, and to the start
-abbrev start-insert-all : tie.After-insert-all → tie.Start
-start-insert-all c = c .before .before .before .before
-
+-- the keys are in the draft, behind its first two bytes
 abbrev inserted : tie.After-used → tie.After-insert-all
 inserted c = c .before .before .before .before
+
+abbrev start : tie.After-insert-all → tie.Start
+start c = c .before .before .before .before
 
 insert-all-requires : tie.Need-insert-all-requires
 insert-all-requires c κs = keys-ready (c .before .before .before .pre)
@@ -33,13 +33,19 @@ write-two-requires : tie.Need-write-two-requires
 write-two-requires c κs = search needs
 
 add-t17 : tie.Need-add-t17
-add-t17 c = omega (arith, end-inside (start-insert-all (inserted (c .before .before .before .before .before)) .pre) _ _ _ (subst (InsertedIs _ _ _ _ _ _ _) (c .before .before .before .before .before .used .given .1) (inserted (c .before .before .before .before .before) .insert-all .ensures)))
+add-t17 c =
+    let keys = c .before .before .before .before .before in
+    let all = subst (InsertedIs _ _ _ _ _ _ _) (keys .used .given .1) (inserted keys .insert-all .ensures) in
+    omega (arith, end-inside (start (inserted keys) .pre) _ _ _ all)
 
 same-length : tie.Need-same-length
 same-length c = search needs
 
 returns : tie.Need-returns
-returns c = all-added (start-insert-all (inserted (c .before .before .before .before .before)) .pre) _ _ _ _ (subst (InsertedIs _ _ _ _ _ _ _) (c .before .before .before .before .before .used .given .1) (inserted (c .before .before .before .before .before) .insert-all .ensures)) (c .before .before .write-two .ensures)
+returns c =
+    let keys = c .before .before .before .before .before in
+    let all = subst (InsertedIs _ _ _ _ _ _ _) (keys .used .given .1) (inserted keys .insert-all .ensures) in
+    all-added (start (inserted keys) .pre) _ _ _ _ all (c .before .before .write-two .ensures)
 
 enum-told : tie.Need-enum-told
 enum-told c = search needs
@@ -48,7 +54,9 @@ same-length-2 : tie.Need-same-length-2
 same-length-2 c = search needs
 
 returns-2 : tie.Need-returns-2
-returns-2 c = none-added (start-insert-all (c .before .before .before .before) .pre) _ (rw (c .enum-told .given .1) at (c .before .before .before .before .insert-all .ensures))
+returns-2 c =
+    let full = c .before .before .before .before in
+    none-added (start full .pre) _ (rw (c .enum-told .given .1) at (full .insert-all .ensures))
 
 pub draft-keys-spec : {M : Type 1} → statement M
 draft-keys-spec =

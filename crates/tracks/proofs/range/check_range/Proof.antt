@@ -13,18 +13,21 @@ use borrow.Author.Needs.{needs}
 use Rattle.tracks.proofs.range.check_range.Statement.{statement}
 use Rattle.tracks.proofs.range.check_range.Tie as tie
 
--- from a named place back to the one before it, and to the start
-abbrev before-else2 : tie.Else2 → tie.After-p
-before-else2 c = c .before .before .before
+-- the bounds were read, and then their keys were found within the limit
+abbrev read : tie.Else2 → tie.After-p
+read c = c .before .before .before
 
 -- the two bounds that were read, in bytes, with keys within the limit
-seen : (c : tie.After-p) → BoundsAt (now (c .before .before .before .before .args .bounds)) (c .p .given .0 .0)
+abbrev start : tie.After-p → tie.Start
+start c = c .before .before .before .before
+
+seen : (c : tie.After-p) → BoundsAt (now (start c .args .bounds)) (c .p .given .0 .0)
 seen c = rw (c .p .given .1) at (c .before .before .read-bounds .ensures)
 
-small : (c : tie.After-p) (i : ℕ) → getD (now (c .before .before .before .before .args .bounds)) i 0 < 256
+small : (c : tie.After-p) (i : ℕ) → getD (now (start c .args .bounds)) i 0 < 256
 small c i = omega (arith, c .before .before .before .shared-slice-known .given i)
 
-short : (c : tie.Else2) → (c .before .before .before .p .given .0 .0 .«start_to» - c .before .before .before .p .given .0 .0 .«start_from» ≤ keyLimit) × (c .before .before .before .p .given .0 .0 .«end_to» - c .before .before .before .p .given .0 .0 .«end_from» ≤ keyLimit)
+short : (c : tie.Else2) → (read c .p .given .0 .0 .«start_to» - read c .p .given .0 .0 .«start_from» ≤ keyLimit) × (read c .p .given .0 .0 .«end_to» - read c .p .given .0 .0 .«end_from» ≤ keyLimit)
 short c = (c .before .if1 .left, ltb-false _ _ (c .if2 .left))
 
 read-bounds-requires : tie.Need-read-bounds-requires
@@ -70,13 +73,19 @@ add-t25 : tie.Need-add-t25
 add-t25 c = omega (arith, short (c .before .before .before .before .before))
 
 returns-2 : tie.Need-returns-2
-returns-2 c = judged-good (seen (before-else2 (c .before .before .before .before .before))) (small (before-else2 (c .before .before .before .before .before))) _ (c .before .before .before .before .new .ensures) (short (c .before .before .before .before .before) .0) (short (c .before .before .before .before .before) .1) (sym (c .before .non-empty .ensures) ∙ c .if3 .taken)
+returns-2 c =
+    let made = c .before .before .before .before in
+    let e = made .before in
+    judged-good (seen (read e)) (small (read e)) _ (made .new .ensures) (short e .0) (short e .1) (sym (c .before .non-empty .ensures) ∙ c .if3 .taken)
 
 enum-told : tie.Need-enum-told
 enum-told c = search needs
 
 returns-3 : tie.Need-returns-3
-returns-3 c = judged-empty (seen (before-else2 (c .before .before .before .before .before))) (small (before-else2 (c .before .before .before .before .before))) _ (c .before .before .before .before .new .ensures) (short (c .before .before .before .before .before) .0) (short (c .before .before .before .before .before) .1) (sym (c .before .non-empty .ensures) ∙ c .if3 .left)
+returns-3 c =
+    let made = c .before .before .before .before in
+    let e = made .before in
+    judged-empty (seen (read e)) (small (read e)) _ (made .new .ensures) (short e .0) (short e .1) (sym (c .before .non-empty .ensures) ∙ c .if3 .left)
 
 returns-4 : tie.Need-returns-4
 returns-4 c = judged-malformed (rw (c .enum-told .given .1) at (c .before .before .read-bounds .ensures))

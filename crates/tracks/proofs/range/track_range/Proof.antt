@@ -1,4 +1,4 @@
--- Each way out has its law in RangeLaws; what is known of the arguments and of the transaction that was found is named first.
+-- Answered in the table's order: malformed, a key too long, an empty range, not active, full; else the range stands behind the others.
 use Prim.Native.Nat.{ℕ, _<_}
 use mathlib.Core.Path.{_≡_, sym, _∙_}
 use mathlib.Core.Logic.{inl, inr, ⊎-map}
@@ -7,6 +7,7 @@ use borrow.Author.Tests.{ltb-true, ltb-false}
 use denote.Ref.{now}
 use lib.ListN.{length, getD}
 use Rattle.fields.specs.Fields.{boundsOf}
+use Rattle.layout.specs.Offsets.{idSize}
 use Rattle.places.specs.declared.finds.Place.{Place}
 use Rattle.places.specs.Finds.{Found}
 use Rattle.tracks.specs.declared.range.Judged.{Judged}
@@ -19,50 +20,48 @@ use borrow.Author.Needs.{needs}
 use Rattle.tracks.proofs.range.track_range.Statement.{statement}
 use Rattle.tracks.proofs.range.track_range.Tie as tie
 
--- from a named place back to the one before it, and to the start
-abbrev start-else1 : tie.Else1 → tie.Start
-start-else1 c = c .before .before .before .before
+-- the id has an id's length; the bounds are a range within the limits; its transaction is found
+abbrev AnId : Type 0
+AnId = tie.Else1
 
-abbrev before-size : tie.After-size → tie.Else1
-before-size c = c .before .before .before
+abbrev ARange : Type 0
+ARange = tie.After-size
 
-abbrev start-size : tie.After-size → tie.Start
-start-size c = start-else1 (c .before .before .before)
+abbrev AtTxn : Type 0
+AtTxn = tie.After-at
 
-abbrev before-at : tie.After-at → tie.After-size
-before-at c = c .before .before .before .before .before
+abbrev start : AnId → tie.Start
+start c = c .before .before .before .before
 
-abbrev start-at : tie.After-at → tie.Start
-start-at c = start-size (c .before .before .before .before .before)
+abbrev id : ARange → AnId
+id c = c .before .before .before
 
-abbrev before-else2 : tie.Else2 → tie.After-at
-before-else2 c = c .before .before
+abbrev range : AtTxn → ARange
+range c = c .before .before .before .before .before
 
-abbrev start-else2 : tie.Else2 → tie.Start
-start-else2 c = start-at (c .before .before)
+abbrev few : tie.Else2 → AtTxn
+few c = c .before .before
 
--- from what follows back to the place that it rests on
-abbrev else2-from-done : tie.After-done → tie.Else2
-else2-from-done c = c .before .before .before .before .before .before
+abbrev done : tie.After-done → tie.Else2
+done c = c .before .before .before .before .before .before
 
-abbrev size-from-absent : tie.After-absent → tie.After-size
-size-from-absent c = c .before .before .before .before .before .before
+abbrev absent : tie.After-absent → ARange
+absent c = c .before .before .before .before .before .before
 
--- what is known of the arguments, and of the transaction once it is found
-is-id : (c : tie.Else1) → length (now (c .before .before .before .before .args .id)) ≡ 16
+is-id : (c : AnId) → length (now (start c .args .id)) ≡ idSize
 is-id c = omega arith
 
-small : (c : tie.Else1) (i : ℕ) → getD (now (c .before .before .before .before .args .bounds)) i 0 < 256
+small : (c : AnId) (i : ℕ) → getD (now (start c .args .bounds)) i 0 < 256
 small c i = omega (arith, c .before .shared-slice-known2 .given i)
 
-good : (c : tie.After-size) → Judged.Good (c .size .given .0 .0) ≡ judged (boundsOf (now (start-size c .args .bounds)))
+good : (c : ARange) → Judged.Good (c .size .given .0 .0) ≡ judged (boundsOf (now (start (id c) .args .bounds)))
 good c = sym (c .size .given .1) ∙ c .before .before .check-range .ensures
 
-found : (c : tie.After-at) → Found (now (start-at c .args .room)) (start-at c .args .v .middle) (start-at c .args .v .active) (now (start-at c .args .id)) (Place.Here (c .at .given .0 .0) (c .at .given .0 .1 .0))
+found : (c : AtTxn) → Found (now (start (id (range c)) .args .room)) (start (id (range c)) .args .v .middle) (start (id (range c)) .args .v .active) (now (start (id (range c)) .args .id)) (Place.Here (c .at .given .0 .0) (c .at .given .0 .1 .0))
 found c = rw (c .at .given .1) at (c .before .before .find-txn .ensures)
 
 returns : tie.Need-returns
-returns c = range-refused (c .before .before .before .before .pre) (now (c .before .before .before .before .args .id)) (now (c .before .before .before .before .args .bounds)) (inl (c .if1 .taken))
+returns c = range-refused (c .before .before .before .before .pre) _ _ (inl (c .if1 .taken))
 
 check-range-requires : tie.Need-check-range-requires
 check-range-requires c κs = search needs
@@ -71,22 +70,28 @@ enum-known-size : tie.Need-enum-known-size
 enum-known-size c = search needs
 
 find-txn-requires : tie.Need-find-txn-requires
-find-txn-requires c κs = active-rows (start-size (c .before .before) .pre)
+find-txn-requires c κs = active-rows (start (id (c .before .before)) .pre)
 
 enum-known-at : tie.Need-enum-known-at
 enum-known-at c = search needs
 
 sub-if3 : tie.Need-sub-if3
-sub-if3 c = within (start-else2 c .pre) .1
+sub-if3 c = within (start (id (range (few c))) .pre) .1
 
 same-length : tie.Need-same-length
 same-length c = search needs
 
 returns-2 : tie.Need-returns-2
-returns-2 c = range-full (start-at (c .before .before) .pre) (now (start-at (c .before .before) .args .id)) (now (start-at (c .before .before) .args .bounds)) (is-id (before-size (before-at (c .before .before)))) (good (before-at (c .before .before))) (found (c .before .before)) (⊎-map (λ z. omega (arith, z .taken)) (λ z. ltb-true _ _ (z .1 .taken)) (c .if2 .came))
+returns-2 c =
+    let t = c .before .before in
+    let r = range t in
+    range-full (start (id r) .pre) _ _ (is-id (id r)) (good r) (found t) (⊎-map (λ z. omega (arith, z .taken)) (λ z. ltb-true _ _ (z .1 .taken)) (c .if2 .came))
 
 append-range-requires : tie.Need-append-range-requires
-append-range-requires c κs = appendable (start-else2 (c .before .before) .pre) (now (start-else2 (c .before .before) .args .id)) (now (start-else2 (c .before .before) .args .bounds)) (is-id (before-size (before-at (before-else2 (c .before .before))))) (good (before-at (before-else2 (c .before .before)))) (found (c .before .before .before .before)) (small (before-size (before-at (before-else2 (c .before .before))))) (omega (arith, c .before .before .if2 .left)) (ltb-false _ _ (c .before .if3 .left))
+append-range-requires c κs =
+    let e = c .before .before in
+    let r = range (few e) in
+    appendable (start (id r) .pre) _ _ (is-id (id r)) (good r) (found (few e)) (small (id r)) (omega (arith, e .if2 .left)) (ltb-false _ _ (c .before .if3 .left))
 
 done-requires : tie.Need-done-requires
 done-requires c κs = search needs
@@ -95,7 +100,12 @@ same-length-2 : tie.Need-same-length-2
 same-length-2 c = search needs
 
 returns-3 : tie.Need-returns-3
-returns-3 c = said (c .done .ensures) (range-done (start-else2 (else2-from-done c) .pre) (now (start-else2 (else2-from-done c) .args .id)) (now (start-else2 (else2-from-done c) .args .bounds)) (is-id (before-size (before-at (before-else2 (else2-from-done c))))) (good (before-at (before-else2 (else2-from-done c)))) (found (before-else2 (else2-from-done c))) (small (before-size (before-at (before-else2 (else2-from-done c))))) (omega (arith, else2-from-done c .if2 .left)) (ltb-false _ _ (c .before .before .before .before .before .if3 .left)) (c .before .before .before .append-range .ensures))
+returns-3 c =
+    let e = done c in
+    let r = range (few e) in
+    let put = c .before .before .before in
+    let served = range-done (start (id r) .pre) _ _ (is-id (id r)) (good r) (found (few e)) (small (id r)) (omega (arith, e .if2 .left)) (ltb-false _ _ (put .before .before .if3 .left)) (put .append-range .ensures) in
+    said (c .done .ensures) served
 
 enum-told : tie.Need-enum-told
 enum-told c = search needs
@@ -107,25 +117,33 @@ same-length-3 : tie.Need-same-length-3
 same-length-3 c = search needs
 
 returns-4 : tie.Need-returns-4
-returns-4 c = said (c .absent .ensures) (range-absent (start-size (size-from-absent c) .pre) (now (start-size (size-from-absent c) .args .id)) (now (start-size (size-from-absent c) .args .bounds)) (is-id (before-size (size-from-absent c))) (good (size-from-absent c)) (rw (c .before .enum-told .given .1) at (c .before .before .before .find-txn .ensures)))
+returns-4 c =
+    let r = absent c in
+    said (c .absent .ensures) (range-absent (start (id r) .pre) _ _ (is-id (id r)) (good r) (rw (c .before .enum-told .given .1) at (c .before .before .before .find-txn .ensures)))
 
 enum-told-2 : tie.Need-enum-told-2
 enum-told-2 c = search needs
 
 returns-5 : tie.Need-returns-5
-returns-5 c = range-is-empty (start-else1 (c .before .before .before) .pre) (now (start-else1 (c .before .before .before) .args .id)) (now (start-else1 (c .before .before .before) .args .bounds)) (is-id (c .before .before .before)) (sym (c .enum-told2 .given .1) ∙ c .before .before .check-range .ensures)
+returns-5 c =
+    let a = c .before .before .before in
+    range-is-empty (start a .pre) _ _ (is-id a) (sym (c .enum-told2 .given .1) ∙ c .before .before .check-range .ensures)
 
 enum-told-3 : tie.Need-enum-told-3
 enum-told-3 c = search needs
 
 returns-6 : tie.Need-returns-6
-returns-6 c = range-too-long (start-else1 (c .before .before .before) .pre) (now (start-else1 (c .before .before .before) .args .id)) (now (start-else1 (c .before .before .before) .args .bounds)) (is-id (c .before .before .before)) (sym (c .enum-told3 .given .1) ∙ c .before .before .check-range .ensures)
+returns-6 c =
+    let a = c .before .before .before in
+    range-too-long (start a .pre) _ _ (is-id a) (sym (c .enum-told3 .given .1) ∙ c .before .before .check-range .ensures)
 
 enum-told-4 : tie.Need-enum-told-4
 enum-told-4 c = search needs
 
 returns-7 : tie.Need-returns-7
-returns-7 c = range-refused (start-else1 (c .before .before .before) .pre) (now (start-else1 (c .before .before .before) .args .id)) (now (start-else1 (c .before .before .before) .args .bounds)) (inr (sym (c .enum-told4 .given .1) ∙ c .before .before .check-range .ensures))
+returns-7 c =
+    let a = c .before .before .before in
+    range-refused (start a .pre) _ _ (inr (sym (c .enum-told4 .given .1) ∙ c .before .before .check-range .ensures))
 
 pub track-range-spec : {M : Type 1} → statement M
 track-range-spec =

@@ -6,7 +6,6 @@ use borrow.Author.Tests.{ne-eqb}
 use Rattle.search.specs.Search.{marksLeft}
 use Rattle.search.proofs.marks.Marks.is_over.Statement.{statement}
 use Rattle.search.proofs.marks.Marks.is_over.Tie as tie
-use Rattle.search.proofs.marks.Marks.is_over.Reads as reads
 
 returns : tie.Need-returns
 returns c = sym (ne-eqb (marksLeft (c .before .before .args .self)) 0 (λ z. omega (arith, z, c .if1 .taken)))

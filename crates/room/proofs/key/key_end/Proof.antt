@@ -1,9 +1,9 @@
 -- A key is cut where its length, the limit or the bytes run out; otherwise it is what its length says.
 use native.Mathlib.Omega.{arith}
 use borrow.Author.Needs.{needs}
-use Rattle.room.proofs.SetLaws.{key-short, key-long, key-cut, key-got}
-use Rattle.room.proofs.set.key_end.Statement.{statement}
-use Rattle.room.proofs.set.key_end.Tie as tie
+use Rattle.room.proofs.KeyLaws.{key-short, key-long, key-cut, key-got}
+use Rattle.room.proofs.key.key_end.Statement.{statement}
+use Rattle.room.proofs.key.key_end.Tie as tie
 
 sub-if1 : tie.Need-sub-if1
 sub-if1 c = search needs

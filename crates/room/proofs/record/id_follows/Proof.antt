@@ -1,10 +1,10 @@
--- The answer of the comparison is that of the labels; the first key follows nothing.
+-- The answer is that of comparing the two ids; the first id follows nothing.
 use native.Mathlib.Omega.{arith}
 use borrow.Author.Tests.{eq-eqb}
 use borrow.Author.Needs.{needs}
-use Rattle.room.proofs.GoingLaws.{follows-by}
-use Rattle.room.proofs.set.key_follows.Statement.{statement}
-use Rattle.room.proofs.set.key_follows.Tie as tie
+use Rattle.room.proofs.ChainLaws.{follows-by}
+use Rattle.room.proofs.record.id_follows.Statement.{statement}
+use Rattle.room.proofs.record.id_follows.Tie as tie
 
 returns : tie.Need-returns
 returns c = rw (eq-eqb _ _ (c .if1 .taken))
@@ -16,13 +16,13 @@ add-b : tie.Need-add-b
 add-b c = search needs
 
 sub-compare : tie.Need-sub-compare
-sub-compare c = omega (arith, c .before .before .pre .0 .far (c .if1 .left))
+sub-compare c = search needs
 
 part-compare-start : tie.Need-part-compare-start
-part-compare-start c = omega (arith, c .before .before .pre .0 .far (c .if1 .left))
+part-compare-start c = search needs
 
 part-compare-end : tie.Need-part-compare-end
-part-compare-end c = search needs
+part-compare-end c = omega (arith, c .before .before .pre .0 .far (c .if1 .left))
 
 sub-compare-2 : tie.Need-sub-compare-2
 sub-compare-2 c = search needs
@@ -39,8 +39,8 @@ compare-requires c κs = search needs
 returns-2 : tie.Need-returns-2
 returns-2 c = follows-by _ _ _ _ _ (c .before .before .before .if1 .left) (c .compare .ensures)
 
-pub key-follows-spec : {M : Type 1} → statement M
-key-follows-spec =
+pub id-follows-spec : {M : Type 1} → statement M
+id-follows-spec =
     tie.close
     (tie.spec
     returns

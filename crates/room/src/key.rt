@@ -1,11 +1,12 @@
+// The walk over keys: one of them, and those of a set.
 ghost use mathlib.Core.Path.{_≡_};
 ghost use Prim.Native.Nat.{_+_, _≤_};
 ghost use lib.ListN.{length};
-ghost use Rattle.layout.specs.Offsets.{lengthSize};
-ghost use Rattle.layout.specs.Keys.{below};
 ghost use Rattle.keys.specs.Limit.{keyLimit};
-ghost use Rattle.room.specs.Counts.{aKey, aSet, runOf};
-ghost use Rattle.room.specs.Walks.{Walks, Apart, keyFollows};
+ghost use Rattle.layout.specs.Offsets.{lengthSize};
+ghost use Rattle.room.specs.Chains.{theKeys, chainOf};
+ghost use Rattle.room.specs.Counts.{aKey, aSet};
+ghost use Rattle.room.specs.Walks.{Walks, Apart};
 use crate::tally::Tally;
 use crate::tally::Walked;
 use keys::KEY_LIMIT;
@@ -36,10 +37,10 @@ pub fn key_end(room: &[u8], at: usize, limit: usize) -> Walked
     })
 }
 
-// Whether the key of the record at e comes after that of the one before it, from p up to e; none is before it if p is e.
+// Whether the key of the record from e up to next comes after that of the one from p up to e; none is before it if p is e.
 fn key_follows(room: &[u8], p: usize, e: usize, next: usize) -> bool
     requires { ⌜ Apart lengthSize p e × ((e + lengthSize ≤ next) × (next ≤ length (now room))) ⌝ }
-    ensures { λ r. ⌜ r ≡ keyFollows (now (room .entry)) p e next ⌝ }
+    ensures { λ r. ⌜ r ≡ theKeys keyLimit .follows (now (room .entry)) p e next ⌝ }
 {
     if p == e {
         return true;
@@ -52,7 +53,7 @@ fn key_follows(room: &[u8], p: usize, e: usize, next: usize) -> bool
 // Where n keys end, each above the one before.
 fn keys_end(room: &[u8], at: usize, n: usize) -> Walked
     requires { ⌜ at ≤ length (now room) ⌝ }
-    ensures { λ r. ⌜ Walks (runOf (aKey keyLimit) below n) (now (room .entry)) at r ⌝ }
+    ensures { λ r. ⌜ Walks (chainOf (theKeys keyLimit) n) (now (room .entry)) at r ⌝ }
 {
     let mut t = Tally::start(at);
     let mut p = at;
@@ -73,7 +74,7 @@ fn keys_end(room: &[u8], at: usize, n: usize) -> Walked
     Walked::Ends(t)
 }
 
-// Where the set at a place ends.
+// Where the set at a place ends: keys behind their count.
 pub fn set_end(room: &[u8], at: usize) -> Walked
     requires { ⌜ at ≤ length (now room) ⌝ }
     ensures { λ r. ⌜ Walks (aSet keyLimit) (now (room .entry)) at r ⌝ }
