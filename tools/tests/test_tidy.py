@@ -24,9 +24,14 @@ class Faults(unittest.TestCase):
     def test_names_that_nothing_uses(self):
         laws = "-- A law.\nuse a.B.{one, _+_, two}\nuse a.C as c\n\nlaw : one ≡ x + y\nlaw = refl -- two, c\n"
         self.assertEqual(self.faults("Laws.antt", laws), [(2, "`two` is brought and not used"), (3, "`c` is brought and not used")])
-        self.assertEqual(self.faults("Laws.antt", laws.replace(" -- two, c", " two (c .given)")), [])
+        self.assertEqual(self.faults("Laws.antt", laws.replace(" -- two, c", " two (c.given)")), [])
         source = "ghost use a.B.{length};\nuse keys::compare;\nuse keys::equal;\n\nfn f() { compare(1) }\n"
         self.assertEqual(self.faults("lib.rt", source), [(1, "`length` is brought and not used"), (3, "`equal` is brought and not used")])
+
+    def test_a_part_of_a_word_or_a_field_is_no_use(self):
+        laws = "-- A law.\nuse a.B.{take}\nuse a.C as reads\n\nlaw = take-append (s .reads)\n"
+        self.assertEqual(self.faults("Laws.antt", laws), [(2, "`take` is brought and not used"), (3, "`reads` is brought and not used")])
+        self.assertEqual(self.faults("Laws.antt", laws.replace("take-append (s .reads)", "take (reads.one)")), [])
 
     def test_an_operator_is_used_by_its_parts(self):
         self.assertEqual(self.faults("Laws.antt", "-- A law.\nuse a.B.{_∷_, []}\n\nlaw = x ∷ []\n"), [])
