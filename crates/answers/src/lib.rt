@@ -1,9 +1,11 @@
 // What a call on a room answers.
+#![tactic(auto)]
+
 ghost use Rattle.answers.specs.Says.{Says};
 
 // Document 01's status and value.
 #[repr(C)]
-#[derive(Drop)]
+#[derive(Clone, Copy)]
 pub struct Answer {
     pub status: u8,
     pub value: u64,

@@ -1,4 +1,6 @@
 // A fresh room, and a transaction's begin.
+#![tactic(auto)]
+
 ghost use Rattle.machine.specs.Calls.{fresh, on, begin};
 ghost use Rattle.layout.specs.Rooms.{Served};
 ghost use Rattle.room.specs.Views.{Seen};

@@ -8,7 +8,7 @@ use crate::sides::{Combined, Side, max_end, max_start, min_end};
 use kinds::kind::Kind;
 
 // A pair of bounds: the kinds, with the keys in slices beside them.
-#[derive(Drop)]
+#[derive(Clone, Copy)]
 pub struct ComparableRange {
     pub start: Kind,
     pub end: Kind,

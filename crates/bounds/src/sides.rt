@@ -6,7 +6,7 @@ ghost use Rattle.bounds.specs.Sides.{sided, other_side, max_start, min_end, max_
 use kinds::kind::Kind;
 
 // Which of two ranges a part comes from.
-#[derive(Drop)]
+#[derive(Clone, Copy)]
 pub enum Side {
     First,
     Second,
@@ -73,7 +73,7 @@ pub fn max_end(a: Kind, a_key: &[u8], b: Kind, b_key: &[u8]) -> Side
 }
 
 // The answer of intersect and union: which of the two ranges gives the start and which the end.
-#[derive(Drop)]
+#[derive(Clone, Copy)]
 pub enum Combined {
     Of { start: Side, end: Side },
     Nothing,

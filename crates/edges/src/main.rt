@@ -1,4 +1,6 @@
 // Runs document 01's pairs at each edge that are not proved, and their neighbours: a line for each, what was asked and what was answered.
+#![tactic(auto)]
+
 use room::ceilings::SIZE;
 
 mod asks;

@@ -14,7 +14,7 @@ use places::finds::least_start;
 use places::skips::entry_past;
 
 // How many entries are kept, and where they end.
-#[derive(Drop)]
+#[derive(Clone, Copy)]
 struct Kept {
     count: usize,
     end: usize,

@@ -1,4 +1,6 @@
 // Changes of a room's bytes: parts of its record put in, taken out and moved.
+#![tactic(auto)]
+
 ghost use Rattle.std.specs.Prelude.{◌≡◌, ◌+◌, ◌≤◌, [], ◌++◌, length};
 ghost use Rattle.machine.specs.Serve.{new_txn};
 ghost use Rattle.codec.specs.Formats.{number};

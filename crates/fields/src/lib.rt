@@ -1,4 +1,6 @@
 // Fields: a one-byte tag, a two-byte big-endian length and a payload; key lists and bounds, which are made of them.
+#![tactic(auto)]
+
 ghost use Rattle.std.specs.Prelude.{◌≡◌, ◌<◌};
 ghost use Rattle.fields.specs.Fields.{key_list};
 ghost use Rattle.fields.specs.Forms.{FieldIs, NextIs, form_of, BoundFieldIs, BoundsAre};
@@ -20,7 +22,7 @@ pub const EXCLUDED: u8 = 0x12;
 pub const FIELD_HEAD: usize = 3;
 
 // The field at a place, its payload from one index to before another.
-#[derive(Drop)]
+#[derive(Clone, Copy)]
 pub enum FieldAt {
     At { tag: u8, from: usize, to: usize },
     End,
@@ -54,7 +56,7 @@ pub fn field_at(bytes: &[u8], at: usize) -> FieldAt
 }
 
 // The key at a place of a key list.
-#[derive(Drop)]
+#[derive(Clone, Copy)]
 pub enum NextKey {
     Key { from: usize, to: usize },
     End,
@@ -77,7 +79,7 @@ pub fn next_key(list: &[u8], at: usize) -> NextKey
 }
 
 // Document 01's verdict on a key list: well formed, well formed with a key over the limit (4), badly formed (2).
-#[derive(Drop)]
+#[derive(Clone, Copy)]
 pub enum Form {
     Good,
     LongKey,
@@ -110,7 +112,7 @@ pub fn check_keys(list: &[u8]) -> Form
 }
 
 // The bound at a place: its kind, and from where to where its key stands.
-#[derive(Drop)]
+#[derive(Clone, Copy)]
 enum BoundAt {
     Found(Kind, usize, usize),
     NoBound,
@@ -141,7 +143,7 @@ fn bound_at(bytes: &[u8], at: usize) -> BoundAt
 }
 
 // Two bounds with the places of their keys.
-#[derive(Drop)]
+#[derive(Clone, Copy)]
 pub struct BoundPlaces {
     pub start: Kind,
     pub start_from: usize,
@@ -151,7 +153,7 @@ pub struct BoundPlaces {
     pub end_to: usize,
 }
 
-#[derive(Drop)]
+#[derive(Clone, Copy)]
 pub enum ReadBounds {
     Bounds(BoundPlaces),
     NoBounds,

@@ -1,4 +1,6 @@
 // Byte order. Every comparison of keys goes through `compare`.
+#![tactic(auto)]
+
 ghost use Rattle.std.specs.Prelude.{◌≡◌};
 ghost use Rattle.keys.specs.Order.{order, sign, is_same, starts_with};
 

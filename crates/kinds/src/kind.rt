@@ -3,7 +3,7 @@ ghost use Rattle.keys.specs.Order.{sign};
 ghost use Rattle.kinds.specs.Bounds.{bound, is_bounded, tie, tie_of, start_order, end_order, bound_order, start_admits, end_admits};
 
 // What kind of bound a key makes: Rust's `Bound`, with the key in a slice beside it.
-#[derive(Drop)]
+#[derive(Clone, Copy)]
 pub enum Kind {
     Unbounded,
     Included,

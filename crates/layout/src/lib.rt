@@ -1,5 +1,6 @@
 // The record of a machine state in bytes, and the one contract of the calls on a room: definitions and their laws. The code has
 // only the places and sizes, under the names that specs/Offsets.antt gives them.
+#![tactic(auto)]
 
 // ---- what numbers take
 

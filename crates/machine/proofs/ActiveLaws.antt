@@ -61,7 +61,7 @@ above_none p us a = (find_none p us).1 (all_map _ _ (λ u. ap is_same) us (above
 -- ids are distinct, so each active one is found by its id
 pub finds : (us : List Txn) (t : Txn) → Memᴰ t us → Ascends (ids us) → find t.id us ≡ some t
 unfolding find
-finds [] t m a = absurd (Memᴰ.not_nil m)
+finds [] t m a = absurd (Memᴰ.not-nil m)
 finds (u ∷ us) t m a = step (λ n. finds us t n (above_ascends u.id (ids us) a)) (Memᴰ.cases_cons m)
   where
     step : (Memᴰ t us → find t.id us ≡ some t) → (t ≡ u) ⊎ Memᴰ t us

@@ -23,7 +23,7 @@ unfolding in_reach
 prune_rule = record { idle = λ e. refl; spares = spares }
   where
     spares : (ts : List Txn) (t : Txn) → Memᴰ t ts → (e : Entry) → t.start < e.seq → in_reach ts e ≡ true
-    spares [] t m e h = absurd (Memᴰ.not_nil m)
+    spares [] t m e h = absurd (Memᴰ.not-nil m)
     spares (u ∷ us) t m e h = le-leb (least_of u us) e.seq (omega (arith, h, (least_is u us).below t m))
 
 pub empty_rule : Rule any_active
@@ -31,7 +31,7 @@ unfolding any_active
 empty_rule = record { idle = λ e. refl; spares = spares }
   where
     spares : (ts : List Txn) (t : Txn) → Memᴰ t ts → (e : Entry) → t.start < e.seq → any_active ts e ≡ true
-    spares [] t m e h = absurd (Memᴰ.not_nil m)
+    spares [] t m e h = absurd (Memᴰ.not-nil m)
     spares (u ∷ us) t m e h = refl
 
 pub rule_idle : (stays : List Txn → Entry → Bool) → Rule stays → (ts : List Txn) (es : List Entry) → ts ≡ [] → keep (stays ts) es ≡ []

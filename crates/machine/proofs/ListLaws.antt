@@ -42,7 +42,7 @@ any_some {A} p (x ∷ xs) e = step (any_some p xs) (or_cases (p x) (any p xs) e)
 
 pub any_of : {A : Type 0} (p : A → Bool) (xs : List A) (x : A) → Memᴰ x xs → p x ≡ true → any p xs ≡ true
 unfolding any
-any_of p [] x m e = absurd (Memᴰ.not_nil m)
+any_of p [] x m e = absurd (Memᴰ.not-nil m)
 any_of p (y ∷ ys) x m e = step (λ m'. any_of p ys x m' e) (Memᴰ.cases_cons m)
   where
     step : (Memᴰ x ys → any p ys ≡ true) → (x ≡ y) ⊎ Memᴰ x ys → (p y || any p ys) ≡ true
@@ -72,7 +72,7 @@ all_append P (x ∷ xs) ys a b = (a.0, all_append P xs ys a.1 b)
 
 -- what all have, each has
 pub all_of : {A : Type 0} (P : A → Type 0) (xs : List A) (x : A) → Memᴰ x xs → All P xs → P x
-all_of P [] x m a = absurd (Memᴰ.not_nil m)
+all_of P [] x m a = absurd (Memᴰ.not-nil m)
 all_of P (y ∷ ys) x m a = step (λ n. all_of P ys x n a.1) (Memᴰ.cases_cons m)
   where
     step : (Memᴰ x ys → P x) → (x ≡ y) ⊎ Memᴰ x ys → P x
@@ -93,7 +93,7 @@ module _ {A : Type 0} (p : A → Bool) where
   -- the kept ones are those that pass
   pub keep_holds : (xs : List A) (x : A) → Memᴰ x (keep p xs) ↔ (Memᴰ x xs × (p x ≡ true))
   unfolding keep
-  keep_holds [] x = (λ m. absurd (Memᴰ.not_nil m), λ m. m.0)
+  keep_holds [] x = (λ m. absurd (Memᴰ.not-nil m), λ m. m.0)
   keep_holds (y ∷ ys) x = step (keep_holds ys x) (p y) refl
     where
       first : (p y ≡ true) → (x ≡ y) ⊎ Memᴰ x (keep p ys)

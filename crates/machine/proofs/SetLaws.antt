@@ -127,7 +127,7 @@ insert_holds k x (y ∷ ys) = step (insert_holds k x ys) (order x y) refl
 -- "A key already in that set costs nothing"
 pub insert_known : (k : Bytes) (ks : List Bytes) → Memᴰ k ks → Ascends ks → insert k ks ≡ ks
 unfolding insert
-insert_known k [] m a = absurd (Memᴰ.not_nil m)
+insert_known k [] m a = absurd (Memᴰ.not-nil m)
 insert_known k (x ∷ xs) m a = step (λ n. insert_known k xs n (above_ascends x xs a)) (Memᴰ.cases_cons m)
   where
     step : (Memᴰ k xs → insert k xs ≡ xs) → (k ≡ x) ⊎ Memᴰ k xs
@@ -167,7 +167,7 @@ unfolding insert_all
 insert_all_holds k [] ks = (inr, into)
   where
     into : Memᴰ k [] ⊎ Memᴰ k ks → Memᴰ k ks
-    into (inl m) = absurd (Memᴰ.not_nil m)
+    into (inl m) = absurd (Memᴰ.not-nil m)
     into (inr m) = m
 insert_all_holds k (x ∷ xs) ks = step (insert_all_holds k xs (insert x ks))
   where

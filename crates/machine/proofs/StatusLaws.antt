@@ -117,7 +117,7 @@ others_mean i us = (λ e. out (without i us) refl e, λ k. back k (without i us)
         record { who = w; active = k.0; another = λ q. true≢false (sym (equal_refl i) ∙ (rw q at differs)) }
 
     back : Other i us → (ws : List Txn) → without i us ≡ ws → not (is_nil ws) ≡ true
-    back k [] p = absurd (Memᴰ.not_nil (rw p at ((left k.who).1 (k.active, go (equal i k.who.id) refl))))
+    back k [] p = absurd (Memᴰ.not-nil (rw p at ((left k.who).1 (k.active, go (equal i k.who.id) refl))))
       where
         go : (b : Bool) → equal i k.who.id ≡ b → not b ≡ true
         go true e = absurd (k.another (sym (equal_eq i k.who.id e)))

@@ -99,7 +99,7 @@ LongOf n ks = (k : Bytes) × Memᴰ k ks × (n < length k)
 
 long_of_means : (n : ℕ) (ks : List Bytes) → Says (not (short_keys n ks)) (LongOf n ks)
 unfolding short_keys
-long_of_means n [] = (λ e. absurd (false≢true e), λ z. absurd (Memᴰ.not_nil z.1))
+long_of_means n [] = (λ e. absurd (false≢true e), λ z. absurd (Memᴰ.not-nil z.1))
 long_of_means n (x ∷ ks) = step (leb (length x) n) refl (long_of_means n ks)
   where
     step : (b : Bool) → leb (length x) n ≡ b → Says (not (short_keys n ks)) (LongOf n ks) → Says (not (b && short_keys n ks)) (LongOf n (x ∷ ks))

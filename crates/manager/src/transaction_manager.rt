@@ -8,7 +8,7 @@ use machine::Which;
 use room::{Opened, open};
 
 // What is asked of a room, where it may change.
-#[derive(Drop)]
+#[derive(Clone, Copy)]
 enum Ask {
     Begin,
     Keys(Which),

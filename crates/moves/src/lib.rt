@@ -1,4 +1,6 @@
 // Moves of bytes within a lent run of bytes, up to the splice.
+#![tactic(auto)]
+
 ghost use Rattle.std.specs.Prelude.{◌≡◌, ◌+◌, ◌≤◌, length, drop};
 ghost use Rattle.std.proofs.Math.Seq.{paste};
 ghost use Rattle.moves.specs.Splices.{Spliced, used_after};

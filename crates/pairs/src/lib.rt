@@ -1,1 +1,2 @@
 // Document 01's "Pairs at each edge": definitions and their proof, no code.
+#![tactic(auto)]

@@ -13,7 +13,7 @@ use kinds::kind::Kind;
 use layout::{BOUND, COUNT, LENGTH};
 
 // Where the first of the records that are left stands, and how many they are.
-#[derive(Drop)]
+#[derive(Clone, Copy)]
 pub struct Cursor {
     pub at: usize,
     pub left: usize,

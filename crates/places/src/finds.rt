@@ -11,7 +11,7 @@ use keys::compare;
 use layout::{ID, START};
 
 // Where the transaction with an id stands, or the place that it belongs to.
-#[derive(Drop)]
+#[derive(Clone, Copy)]
 pub enum Place {
     Here { at: usize, end: usize },
     Before(usize),

@@ -1,4 +1,6 @@
 // The calls that only look: check and minimum.
+#![tactic(auto)]
+
 ghost use Rattle.machine.specs.Calls.{on, check, minimum};
 ghost use Rattle.layout.specs.Rooms.{Served};
 ghost use Rattle.room.specs.Views.{Seen};

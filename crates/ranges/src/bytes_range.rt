@@ -11,7 +11,7 @@ use bounds::comparable_range::ComparableRange;
 use keys::KEY_LIMIT;
 use kinds::kind::Kind;
 
-#[derive(Drop)]
+#[derive(Clone, Copy)]
 pub struct MadeRange {
     pub making: Making,
     pub start: MadeBound,
@@ -137,7 +137,7 @@ fn too_long(kind: Kind, key: &[u8]) -> bool
 }
 
 // A range of keys: a pair of bounds, with the keys in slices beside it.
-#[derive(Drop)]
+#[derive(Clone, Copy)]
 pub struct BytesRange {
     pub inner: ComparableRange,
 }

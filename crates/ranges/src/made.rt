@@ -9,7 +9,7 @@ use keys::KEY_LIMIT;
 use kinds::kind::Kind;
 
 // How the making of a range or of a key ended: document 01's statuses 0, 4 and 5.
-#[derive(Drop)]
+#[derive(Clone, Copy)]
 pub enum Making {
     Done,
     LongKey,
@@ -29,14 +29,14 @@ impl Making {
 }
 
 // A bound whose key was made: the first len of the bytes, with zeros after them.
-#[derive(Drop)]
+#[derive(Clone, Copy)]
 pub struct MadeBound {
     pub kind: Kind,
     pub len: usize,
     pub bytes: [u8; KEY_LIMIT],
 }
 
-#[derive(Drop)]
+#[derive(Clone, Copy)]
 pub struct Made {
     pub making: Making,
     pub bound: MadeBound,

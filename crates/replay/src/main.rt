@@ -1,4 +1,6 @@
 // Replays a script: reads records from standard input and writes a line of answer for each.
+#![tactic(auto)]
+
 ghost use Rattle.std.specs.Prelude.{◌≡◌, ◌≤◌, length};
 ghost use Rattle.replay.specs.Left.{LeftIs};
 
@@ -25,7 +27,7 @@ fn say_stop(lines: &mut [u8], offset: u64)
 }
 
 // What is left of a piece: from the record that is not whole yet, from the one that ends the run, or nothing that could be said.
-#[derive(Drop)]
+#[derive(Clone, Copy)]
 enum Left {
     More(usize),
     Stop(usize),

@@ -1,4 +1,6 @@
 // A lent room: the validating walk over it, once for each call.
+#![tactic(auto)]
+
 ghost use Rattle.std.specs.Prelude.{◌≡◌, ◌≤◌, length};
 ghost use Rattle.machine.specs.State.{base};
 ghost use Rattle.layout.specs.Offsets.{entries_at};
@@ -19,7 +21,7 @@ pub mod run;
 pub mod tally;
 
 // What stands before the entries: the last number, how many entries, how many active.
-#[derive(Drop)]
+#[derive(Clone, Copy)]
 struct Top {
     last: u64,
     entries: usize,
@@ -27,7 +29,7 @@ struct Top {
 }
 
 // What stands before the entries, or that the stamp is another.
-#[derive(Drop)]
+#[derive(Clone, Copy)]
 enum Headed {
     Is(Top),
     No,
@@ -35,7 +37,7 @@ enum Headed {
 
 // Where the parts of a state's record stand, and the machine's totals: the active ones begin at `middle`, the record ends at
 // `used`.
-#[derive(Drop)]
+#[derive(Clone, Copy)]
 pub struct View {
     pub last: u64,
     pub entries: usize,
@@ -47,7 +49,7 @@ pub struct View {
 }
 
 // The record that a room holds, or that it holds none.
-#[derive(Drop)]
+#[derive(Clone, Copy)]
 pub enum Opened {
     Of(View),
     Bad,

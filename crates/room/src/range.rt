@@ -15,7 +15,7 @@ use kinds::kind::Kind;
 use layout::{BOUND, COUNT, TAG};
 
 // The bound at a place, its kind and where it ends, or that none stands there.
-#[derive(Drop)]
+#[derive(Clone, Copy)]
 enum StoredBound {
     Ends(Kind, usize),
     Cut,

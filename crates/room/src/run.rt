@@ -9,7 +9,7 @@ use crate::record::entry_end;
 use crate::tally::{Tally, Walked};
 
 // What stands in any order: the entries of a room, the ranges of a transaction.
-#[derive(Drop)]
+#[derive(Clone, Copy)]
 pub enum Loose {
     Entry,
     Range,

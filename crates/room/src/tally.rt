@@ -4,7 +4,7 @@ ghost use Rattle.room.specs.Counts.{empty_tally, plus};
 use codec::numbers::larger;
 
 // What a walk counts up to a place: marks, key bytes, and the highest sequence or start.
-#[derive(Drop)]
+#[derive(Clone, Copy)]
 pub struct Tally {
     pub end: usize,
     pub marks: usize,
@@ -13,7 +13,7 @@ pub struct Tally {
 }
 
 // Where a record ends with what it counts, or that none stands there.
-#[derive(Drop)]
+#[derive(Clone, Copy)]
 pub enum Walked {
     Ends(Tally),
     Cut,

@@ -1,4 +1,6 @@
 // Replays the fixed sample of runs: reads them from standard input and writes a line of answer for each record.
+#![tactic(auto)]
+
 ghost use Rattle.std.specs.Prelude.{◌<◌, length};
 
 use codec::numbers::read_eight;

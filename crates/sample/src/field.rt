@@ -8,7 +8,7 @@ use kinds::kind::Kind;
 const CUT: u8 = 0;
 
 // A field's tag, and where in the queries its payload begins and ends.
-#[derive(Drop)]
+#[derive(Clone, Copy)]
 pub struct Field {
     pub tag: u8,
     pub from: usize,

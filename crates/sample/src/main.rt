@@ -1,4 +1,6 @@
 // Replays the fixed sample: reads queries from standard input and writes a line of answer for each.
+#![tactic(auto)]
+
 use libc::STDIN_FILENO;
 use query::answer_at;
 use text::put_bad;

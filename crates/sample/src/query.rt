@@ -6,7 +6,7 @@ use crate::field::{Field, field_at, payload};
 use bounds::comparable_range::ComparableRange;
 
 // Which fields an op takes, in their order.
-#[derive(Drop)]
+#[derive(Clone, Copy)]
 enum Shape {
     Key,
     Keys,

@@ -6,7 +6,7 @@ use crate::records::{Next, next_record};
 use crate::served::serve_record;
 
 // Why feeding ended: the next record is not whole yet, it ends the run, or there is no place for its line.
-#[derive(Drop)]
+#[derive(Clone, Copy)]
 pub enum End {
     More,
     Stop,
@@ -14,7 +14,7 @@ pub enum End {
 }
 
 // How much of a piece was served, and how many bytes of lines were put.
-#[derive(Drop)]
+#[derive(Clone, Copy)]
 pub struct Fed {
     pub at: usize,
     pub put: usize,

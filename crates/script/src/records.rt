@@ -11,7 +11,7 @@ const FIRST_TAG: u8 = 0x01;
 const LAST_TAG: u8 = 0x09;
 
 // The record at a place: whole, its payload from one index to before another; cut, so far; or one that ends the run.
-#[derive(Drop)]
+#[derive(Clone, Copy)]
 pub enum Next {
     Whole { tag: u8, from: usize, to: usize },
     More,

@@ -1,4 +1,6 @@
 // Check's search through a room that is known to hold a state.
+#![tactic(auto)]
+
 ghost use Rattle.layout.specs.Offsets.{any_length};
 ghost use Rattle.layout.specs.Records.{entry_form, txn_form};
 ghost use Rattle.layout.specs.Rows.{Here, Rows};

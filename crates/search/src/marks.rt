@@ -10,7 +10,7 @@ use places::cursor::Cursor;
 use places::skips::{key_past, range_past, set_past};
 
 // What is left of the writes, then of the reads, then of the ranges.
-#[derive(Drop)]
+#[derive(Clone, Copy)]
 pub struct Marks {
     pub writes: Cursor,
     pub reads: Cursor,

@@ -13,21 +13,21 @@ use ranges::bytes_range::MadeRange;
 use ranges::made::{MadeBound, Making};
 
 #[repr(C)]
-#[derive(Drop)]
+#[derive(Clone, Copy)]
 pub struct Compared {
     pub status: u8,
     pub order: i8,
 }
 
 #[repr(C)]
-#[derive(Drop)]
+#[derive(Clone, Copy)]
 pub struct Told {
     pub status: u8,
     pub holds: bool,
 }
 
 #[repr(C)]
-#[derive(Drop)]
+#[derive(Clone, Copy)]
 pub struct Pair {
     pub status: u8,
     pub given: bool,
@@ -38,7 +38,7 @@ pub struct Pair {
 }
 
 #[repr(C)]
-#[derive(Drop)]
+#[derive(Clone, Copy)]
 pub struct NewRange {
     pub status: u8,
     pub start_kind: u8,
@@ -46,7 +46,7 @@ pub struct NewRange {
 }
 
 #[repr(C)]
-#[derive(Drop)]
+#[derive(Clone, Copy)]
 pub struct Key {
     pub kind: u8,
     pub len: usize,
@@ -54,14 +54,14 @@ pub struct Key {
 }
 
 #[repr(C)]
-#[derive(Drop)]
+#[derive(Clone, Copy)]
 pub struct MadeKey {
     pub status: u8,
     pub key: Key,
 }
 
 #[repr(C)]
-#[derive(Drop)]
+#[derive(Clone, Copy)]
 pub struct MadeKeys {
     pub status: u8,
     pub start: Key,

@@ -5,7 +5,7 @@ use crate::sets::{Inserted, insert_all};
 use codec::numbers::write_two;
 use layout::COUNT;
 
-#[derive(Drop)]
+#[derive(Clone, Copy)]
 pub enum Drafted {
     Set { end: usize, count: usize },
     Full,

@@ -1,4 +1,6 @@
 // Tracks: the keys and ranges that an active transaction reads and writes, put into its record.
+#![tactic(auto)]
+
 ghost use Rattle.machine.specs.Calls.{on, track_keys};
 ghost use Rattle.layout.specs.Offsets.{any_length};
 ghost use Rattle.layout.specs.Records.{txn_form};
@@ -24,7 +26,7 @@ pub mod range;
 pub mod sets;
 
 // How many keys are new in a set, if they fit.
-#[derive(Drop)]
+#[derive(Clone, Copy)]
 enum Grown {
     New(usize),
     Full,

@@ -19,7 +19,7 @@ use room::View;
 use room::ceilings::{BYTE_LIMIT, MARK_LIMIT};
 
 // Document 01's verdict on bounds: a range with so many key bytes, an empty one (5), a key over the limit (4), badly formed (2).
-#[derive(Drop)]
+#[derive(Clone, Copy)]
 enum Judged {
     Good(usize),
     EmptyRange,

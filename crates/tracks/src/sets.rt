@@ -9,7 +9,7 @@ use places::cursor::Cursor;
 use places::skips::key_past;
 
 // Where a key belongs in a set: it is there, or it is to stand before what stands at a place.
-#[derive(Drop)]
+#[derive(Clone, Copy)]
 enum KeyPlace {
     There,
     Before(usize),
@@ -35,7 +35,7 @@ fn find_place(draft: &[u8], count: usize, key: &[u8]) -> KeyPlace
     KeyPlace::Before(c.at)
 }
 
-#[derive(Drop)]
+#[derive(Clone, Copy)]
 pub enum Inserted {
     All { used: usize, count: usize },
     Full,
