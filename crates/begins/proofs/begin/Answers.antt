@@ -1,0 +1,29 @@
+-- Refused in the table's order: malformed, active already, full; else the new record is put where its id belongs, and then the count.
+use mathlib.Core.Path.{◌≡◌}
+use borrow.Author.Rules.{rules}
+use lib.ListN.{length}
+use Rattle.layout.specs.Offsets.{id_size}
+use Rattle.places.specs.declared.finds.Place.{Place}
+use Rattle.places.specs.Finds.{Found}
+use Rattle.answers.proofs.SeenLaws.{active_rows}
+use Rattle.answers.proofs.SaidLaws.{said}
+use Rattle.begins.proofs.BeginLaws.{begins_malformed, begins_again, begins_full, begin_space, begins}
+use Rattle.begins.proofs.begin.Goals as goal
+
+pub returns-then-id-ne-ID : goal.returns-then-id-ne-ID
+returns-then-id-ne-ID c = begins_malformed _ _ _ c.requires c.if-id-ne-ID.true
+
+pub find_txn-requires : goal.find_txn-requires
+find_txn-requires c = active_rows c.requires
+
+pub returns-then-active-ge-ACTIVE_LIMIT : goal.returns-then-active-ge-ACTIVE_LIMIT
+returns-then-active-ge-ACTIVE_LIMIT c = begins_full _ _ _ c.requires c.if-id-ne-ID.false c.in-Before.ensures c.if-active-ge-ACTIVE_LIMIT.true
+
+pub put_txn-requires : goal.put_txn-requires
+put_txn-requires c = begin_space _ _ _ c.requires c.if-id-ne-ID.false c.in-Before.ensures c.if-active-ge-ACTIVE_LIMIT.false
+
+pub returns-in-Here : goal.returns-in-Here
+returns-in-Here c = begins_again _ _ _ c.requires c.if-id-ne-ID.false c.in-Here.ensures
+
+pub returns-else-active-ge-ACTIVE_LIMIT : goal.returns-else-active-ge-ACTIVE_LIMIT
+returns-else-active-ge-ACTIVE_LIMIT c = said c.done.ensures (begins _ _ _ c.requires c.if-id-ne-ID.false c.in-Before.ensures c.if-active-ge-ACTIVE_LIMIT.false c.last_committed_seq-start.ensures c.put_txn.ensures c.write_two.ensures)

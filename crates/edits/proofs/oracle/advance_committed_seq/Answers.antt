@@ -1,0 +1,7 @@
+-- What was read is the last number, so the larger of both is what is written.
+use Rattle.edits.proofs.OracleLaws.{advances}
+use borrow.Author.Rules.{rules}
+use Rattle.edits.proofs.oracle.advance_committed_seq.Goals as goal
+
+pub returns : goal.returns
+returns c = advances c.last_committed_seq.ensures c.larger-last.ensures c.write_eight.ensures

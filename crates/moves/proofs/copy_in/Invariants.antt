@@ -1,0 +1,13 @@
+-- The first i bytes of the source stand at the place; all others are as they were.
+use Prim.Native.Nat.{◌-◌}
+use native.Mathlib.Omega.{arith}
+use borrow.Author.Rules.{rules}
+use lib.ListN.{length}
+use Rattle.moves.proofs.MoveLaws.{Copied, copy_start, copy_next, copy_end}
+use Rattle.moves.proofs.copy_in.Given as goal
+
+abbrev pub invariant-loop-i : goal.invariant-loop-i
+invariant-loop-i l = Copied l.initial.room l.at l.src l.room l.i
+
+abbrev pub decreases-loop-i : goal.decreases-loop-i
+decreases-loop-i l = length l.src - l.i
