@@ -1,11 +1,8 @@
 -- Up to i the slices are alike (`Alike`): their order is the order of what is left of them.
-use Prim.Native.Nat.{◌-◌}
 use mathlib.Core.Path.{sym, ap}
 use native.Mathlib.Omega.{arith}
-use borrow.Author.Rules.{rules}
-use lib.ListN.{length}
 use Rattle.keys.specs.Order.{sign}
-use Rattle.keys.proofs.Steps.{Alike, alike_start, alike_next, first_ends, second_ends, both_end, lesser_byte, greater_byte}
+use Rattle.keys.proofs.Steps.{alike_start, alike_next, first_ends, second_ends, both_end, lesser_byte, greater_byte}
 use Rattle.keys.proofs.compare.Goals as goal
 
 pub loop-i-init : goal.loop-i-init

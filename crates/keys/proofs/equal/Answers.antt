@@ -1,5 +1,4 @@
 -- Two keys are equal where their comparison says 0.
-use borrow.Author.Rules.{rules}
 use Rattle.keys.specs.Order.{order}
 use Rattle.keys.proofs.Signs.{same_sign}
 use Rattle.keys.proofs.equal.Goals as goal

@@ -1,5 +1,4 @@
 -- A key starts with a prefix where its first bytes, as many as the prefix has, equal it.
-use borrow.Author.Rules.{rules}
 use mathlib.Core.Path.{sym, ◌∙◌}
 use native.Mathlib.Omega.{arith}
 use lib.ListN.{length}

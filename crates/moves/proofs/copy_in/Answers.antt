@@ -1,9 +1,6 @@
 -- The first i bytes of the source stand at the place; all others are as they were.
-use Prim.Native.Nat.{◌-◌}
 use native.Mathlib.Omega.{arith}
-use borrow.Author.Rules.{rules}
-use lib.ListN.{length}
-use Rattle.moves.proofs.MoveLaws.{Copied, copy_start, copy_next, copy_end}
+use Rattle.moves.proofs.MoveLaws.{copy_start, copy_next, copy_end}
 use Rattle.moves.proofs.copy_in.Goals as goal
 
 pub loop-i-init : goal.loop-i-init

@@ -1,8 +1,6 @@
 -- The first i bytes stand at their new place; those that are still to move have not been written over, since the place lies before them.
 use Prim.Native.Nat.{◌-◌}
-use native.Mathlib.Omega.{arith}
-use borrow.Author.Rules.{rules}
-use Rattle.moves.proofs.MoveLaws.{Down, down_start, down_next, down_end}
+use Rattle.moves.proofs.MoveLaws.{Down}
 use Rattle.moves.proofs.move_down.Given as goal
 
 abbrev pub invariant-loop-i : goal.invariant-loop-i

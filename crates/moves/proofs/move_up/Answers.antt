@@ -1,7 +1,6 @@
 -- All but the first `left` bytes stand at their new place; those have not been written over, since the place lies behind them.
 use native.Mathlib.Omega.{arith}
-use borrow.Author.Rules.{rules}
-use Rattle.moves.proofs.MoveLaws.{Up, up_start, up_next, up_end}
+use Rattle.moves.proofs.MoveLaws.{up_start, up_next, up_end}
 use Rattle.moves.proofs.move_up.Goals as goal
 
 pub loop-left-init : goal.loop-left-init

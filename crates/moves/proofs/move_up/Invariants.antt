@@ -1,7 +1,5 @@
 -- All but the first `left` bytes stand at their new place; those have not been written over, since the place lies behind them.
-use native.Mathlib.Omega.{arith}
-use borrow.Author.Rules.{rules}
-use Rattle.moves.proofs.MoveLaws.{Up, up_start, up_next, up_end}
+use Rattle.moves.proofs.MoveLaws.{Up}
 use Rattle.moves.proofs.move_up.Given as goal
 
 abbrev pub invariant-loop-left : goal.invariant-loop-left

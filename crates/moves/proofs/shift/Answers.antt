@@ -1,7 +1,6 @@
 -- Up or down by where the place lies, and nothing at all where it is the same.
 use native.Mathlib.Omega.{arith}
 use Rattle.moves.proofs.MoveLaws.{stays}
-use borrow.Author.Rules.{rules}
 use Rattle.moves.proofs.shift.Goals as goal
 
 pub returns-else-to-from : goal.returns-else-to-from

@@ -1,7 +1,6 @@
 -- The tail is shifted to where it will stand, and the source copied into the gap.
 use native.Mathlib.Omega.{arith}
 use Rattle.moves.proofs.SpliceLaws.{spliced}
-use borrow.Author.Rules.{rules}
 use Rattle.moves.proofs.splice.Goals as goal
 
 pub returns : goal.returns

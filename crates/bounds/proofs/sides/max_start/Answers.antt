@@ -1,5 +1,4 @@
 -- The sign of the comparison says which start is the greater.
-use borrow.Author.Rules.{rules}
 use Rattle.kinds.specs.Bounds.{bound, start_order}
 use Rattle.keys.proofs.Signs.{on_gt}
 use Rattle.bounds.proofs.sides.max_start.Goals as goal

@@ -1,7 +1,6 @@
 -- The flat sum is the number that eight bytes make.
 use native.Mathlib.Omega.{arith}
 use Rattle.codec.proofs.NumberLaws.{stands_number}
-use borrow.Author.Rules.{rules}
 use Rattle.codec.proofs.numbers.read_eight.Goals as goal
 
 pub returns : goal.returns

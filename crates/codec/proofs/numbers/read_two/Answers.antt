@@ -1,7 +1,6 @@
 -- The sum is the number that two bytes make.
 use native.Mathlib.Omega.{arith}
 use Rattle.codec.proofs.NumberLaws.{stands_number}
-use borrow.Author.Rules.{rules}
 use Rattle.codec.proofs.numbers.read_two.Goals as goal
 
 pub returns : goal.returns

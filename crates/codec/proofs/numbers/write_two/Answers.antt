@@ -2,7 +2,6 @@
 use native.Mathlib.Omega.{arith}
 use lib.ListN.{length-set}
 use Rattle.codec.proofs.NumberLaws.{stores_number}
-use borrow.Author.Rules.{rules}
 use Rattle.codec.proofs.numbers.write_two.Goals as goal
 
 pub bounds-bytes-at-2 : goal.bounds-bytes-at-2

@@ -1,5 +1,4 @@
 -- By the two kinds: only an included and an excluded bound can touch, where their keys are equal.
-use borrow.Author.Rules.{rules}
 use Rattle.bounds.proofs.comparable_range.ComparableRange.are_adjacent.Goals as goal
 
 pub returns-in-Unbounded : goal.returns-in-Unbounded

@@ -1,5 +1,4 @@
 -- The starts decide, and the ends where the starts are equal.
-use borrow.Author.Rules.{rules}
 use mathlib.Core.Path.{◌∙◌}
 use Rattle.kinds.specs.Bounds.{bound, start_order, end_order}
 use Rattle.kinds.proofs.Ties.{kept_sign, tied, untied}

@@ -1,5 +1,4 @@
 -- A key is held where both bounds admit it.
-use borrow.Author.Rules.{rules}
 use Rattle.keys.proofs.Signs.{and_taken, and_left}
 use Rattle.bounds.proofs.comparable_range.ComparableRange.contains.Goals as goal
 

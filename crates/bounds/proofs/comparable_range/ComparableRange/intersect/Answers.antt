@@ -1,5 +1,4 @@
 -- The pair of the greater start and the lesser end is the definition's, and it is given where it is not empty.
-use borrow.Author.Rules.{rules}
 use mathlib.Core.Path.{sym, ◌∙◌}
 use Rattle.bounds.specs.Ranges.{range_of}
 use Rattle.bounds.proofs.Combining.{picked, intersected}

@@ -1,5 +1,4 @@
 -- The key is that of the side which the lesser end has.
-use borrow.Author.Rules.{rules}
 use mathlib.Core.Path.{ap, ◌∙◌}
 use Rattle.bounds.specs.Sides.{sided}
 use Rattle.bounds.proofs.comparable_range.ComparableRange.intersect_end.Goals as goal

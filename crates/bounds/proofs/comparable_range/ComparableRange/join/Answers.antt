@@ -1,5 +1,4 @@
 -- Two ranges are joined where they share a key or touch, up to the greater end.
-use borrow.Author.Rules.{rules}
 use mathlib.Core.Path.{refl, sym, ◌∙◌}
 use Rattle.bounds.specs.Ranges.{range_of}
 use Rattle.bounds.proofs.Combining.{joined}

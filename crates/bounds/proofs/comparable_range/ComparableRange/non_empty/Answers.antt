@@ -1,5 +1,4 @@
 -- By the two kinds: the sign of the comparison of the keys says whether something lies between the bounds.
-use borrow.Author.Rules.{rules}
 use Rattle.keys.proofs.Signs.{lt_sign, le_sign}
 use Rattle.bounds.proofs.comparable_range.ComparableRange.non_empty.Goals as goal
 

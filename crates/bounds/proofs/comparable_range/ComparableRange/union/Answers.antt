@@ -1,5 +1,4 @@
 -- The lesser range is joined with the other, whichever way round they come.
-use borrow.Author.Rules.{rules}
 use mathlib.Core.Path.{ap, ◌∙◌}
 use Rattle.keys.proofs.Signs.{on_lt}
 use Rattle.bounds.specs.Ranges.{range_of, range_order}

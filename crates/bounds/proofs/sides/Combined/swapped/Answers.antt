@@ -1,5 +1,4 @@
 -- Each side is swapped by itself.
-use borrow.Author.Rules.{rules}
 use Rattle.bounds.proofs.sides.Combined.swapped.Goals as goal
 
 pub returns-in-Of : goal.returns-in-Of

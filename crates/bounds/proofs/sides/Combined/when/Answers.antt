@@ -1,5 +1,4 @@
 -- Both ways of the test are the definition's two ways.
-use borrow.Author.Rules.{rules}
 use Rattle.bounds.proofs.sides.Combined.when.Goals as goal
 
 pub returns-then-given : goal.returns-then-given

@@ -1,5 +1,4 @@
 -- By the kind: the sign of the comparison with the bound's key says whether the end admits the key.
-use borrow.Author.Rules.{rules}
 use Rattle.keys.proofs.Signs.{lt_sign, le_sign}
 use Rattle.kinds.proofs.kind.Kind.admits_to.Goals as goal
 

@@ -1,5 +1,4 @@
 -- Each of the nine pairs of kinds has its sign by computation.
-use borrow.Author.Rules.{rules}
 use Rattle.kinds.proofs.kind.Kind.tie.Goals as goal
 
 pub returns-in-Unbounded-other : goal.returns-in-Unbounded-other

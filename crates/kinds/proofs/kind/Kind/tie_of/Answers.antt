@@ -1,5 +1,4 @@
 -- A start's tie is kept and an end's is negated; the three signs fit a byte either way.
-use borrow.Author.Rules.{rules}
 use Rattle.kinds.specs.Bounds.{tie}
 use Rattle.kinds.proofs.Ties.{kept_sign, negated_sign, negated_fits}
 use Rattle.kinds.proofs.kind.Kind.tie_of.Goals as goal

@@ -1,0 +1,12 @@
+-- The bytes of the published size decide what the whole room holds.
+use native.Mathlib.Omega.{arith}
+use Rattle.room.proofs.FirstLaws.{opening_more}
+use Rattle.room.proofs.OpenLaws.{too_small}
+use borrow.Author.Rules.{rules}
+use Rattle.room.proofs.open.Goals as goal
+
+pub returns-then-room-lt-SIZE : goal.returns-then-room-lt-SIZE
+returns-then-room-lt-SIZE c = too_small c.if-room-lt-SIZE.true
+
+pub returns : goal.returns
+returns c = opening_more c.args.room.now (omega arith) c.open_record.result c.open_record.ensures

@@ -1,0 +1,6 @@
+-- What two tallies count together stays within the place that they end at, so no sum overflows.
+use borrow.Author.Rules.{rules}
+use Rattle.room.proofs.tally.Tally.joined.Goals as goal
+
+pub returns : goal.returns
+returns c = rw c.larger-high.ensures
