@@ -11,7 +11,7 @@ use lib.ListN.{length}
 use Rattle.keys.specs.Order.{order, is_less}
 use Rattle.keys.proofs.OrderLaws.{less_is}
 use Rattle.machine.specs.Lists.{sum, All}
-use Rattle.machine.specs.State.{Txn, Entry, State, Ceilings, base, fits, Above, Ascends, ids, TxnOk, EntryOk, MachineState, marks, txn_marks, entry_marks}
+use Rattle.machine.specs.State.{Txn, Entry, State, Ceilings, base, fits, Above, Ascends, ids, TxnOk, EntryOk, MachineState, txn_marks, entry_marks}
 use Rattle.machine.proofs.Kept.{fits_means}
 use Rattle.codec.specs.Codec.{RunOk}
 use Rattle.codec.specs.Formats.{number, bind, only, via, run}

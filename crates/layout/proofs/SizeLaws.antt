@@ -9,7 +9,7 @@ use Rattle.bounds.specs.Ranges.{Range}
 use Rattle.ranges.specs.Made.{key_of, kind_of}
 use Rattle.fields.specs.Forms.{bound_tag}
 use Rattle.machine.specs.Lists.{sum, All}
-use Rattle.machine.specs.State.{Bytes, Txn, Entry, State, Ceilings, Fits, TxnOk, MachineState, set_bytes, range_bytes, txn_bytes, entry_bytes, txn_marks, entry_marks, marks}
+use Rattle.machine.specs.State.{Bytes, Txn, Entry, State, Ceilings, Fits, TxnOk, MachineState, set_bytes, range_bytes, txn_bytes, entry_bytes, txn_marks, entry_marks}
 use Rattle.codec.specs.Codec.{write_run}
 use Rattle.codec.specs.Formats.{number, raw, bind, only, via, run}
 use Rattle.codec.proofs.NumberLaws.{length_number}

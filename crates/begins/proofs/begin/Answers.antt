@@ -1,10 +1,4 @@
 -- Refused in the table's order: malformed, active already, full; else the new record is put where its id belongs, and then the count.
-use mathlib.Core.Path.{◌≡◌}
-use borrow.Author.Rules.{rules}
-use lib.ListN.{length}
-use Rattle.layout.specs.Offsets.{id_size}
-use Rattle.places.specs.declared.finds.Place.{Place}
-use Rattle.places.specs.Finds.{Found}
 use Rattle.answers.proofs.SeenLaws.{active_rows}
 use Rattle.answers.proofs.SaidLaws.{said}
 use Rattle.begins.proofs.BeginLaws.{begins_malformed, begins_again, begins_full, begin_space, begins}

@@ -1,6 +1,5 @@
 -- A room that is too short holds nothing; any other holds the fresh state afterwards, whatever it held.
 use native.Mathlib.Omega.{arith}
-use borrow.Author.Rules.{rules}
 use Rattle.layout.proofs.LoadLaws.{fresh_short}
 use Rattle.answers.proofs.SaidLaws.{said}
 use Rattle.begins.proofs.BeginLaws.{fresh_made}

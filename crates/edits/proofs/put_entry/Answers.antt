@@ -1,5 +1,4 @@
 -- Two splices, one right behind the other, put the entry's record in.
-use borrow.Author.Rules.{rules}
 use lib.ListN.{replicate}
 use native.Mathlib.Omega.{arith}
 use mathlib.Core.Path.{refl}

@@ -1,5 +1,4 @@
 -- The id and the start in zeros are the record of a transaction that has just begun.
-use borrow.Author.Rules.{rules}
 use mathlib.Core.Path.{refl}
 use Rattle.edits.proofs.EditLaws.{txn_put}
 use Rattle.edits.proofs.put_txn.Goals as goal

@@ -1,5 +1,4 @@
 -- A splice that puts nothing in is one shift.
-use borrow.Author.Rules.{rules}
 use Rattle.edits.proofs.EditLaws.{removed}
 use Rattle.edits.proofs.remove.Goals as goal
 

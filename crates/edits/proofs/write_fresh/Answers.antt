@@ -1,5 +1,4 @@
 -- The four numbers, one right behind the other, are the record of the fresh state.
-use borrow.Author.Rules.{rules}
 use Rattle.edits.proofs.EditLaws.{fresh_written}
 use Rattle.edits.proofs.write_fresh.Goals as goal
 

@@ -1,7 +1,4 @@
 -- By the field's tag: a bound of that kind, where an unbounded one has no payload.
-use borrow.Author.Rules.{rules}
-use Rattle.fields.specs.declared.FieldAt.{FieldAt}
-use Rattle.fields.specs.Forms.{FieldIs}
 use Rattle.fields.proofs.Bounds.{bounds_cut, bounds_end, unbounded_here, unbounded_full, included_here, excluded_here, tag_unknown}
 use Rattle.fields.proofs.bound_at.Goals as goal
 

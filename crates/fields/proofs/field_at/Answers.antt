@@ -1,6 +1,5 @@
 -- The head and the payload are there, or the bytes end before, within or behind the head.
 use native.Mathlib.Omega.{arith}
-use borrow.Author.Rules.{rules}
 use Rattle.fields.proofs.Reading.{ends_at, head_cut, payload_cut, field_here}
 use Rattle.fields.proofs.field_at.Goals as goal
 

@@ -1,7 +1,4 @@
 -- A field with a key's tag is a key; another field or a cut one breaks the list.
-use borrow.Author.Rules.{rules}
-use Rattle.fields.specs.declared.FieldAt.{FieldAt}
-use Rattle.fields.specs.Forms.{FieldIs}
 use Rattle.fields.proofs.Keys.{keys_cut, key_here, key_broken}
 use Rattle.fields.proofs.next_key.Goals as goal
 

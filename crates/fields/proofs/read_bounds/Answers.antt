@@ -1,7 +1,4 @@
 -- The start is the bound at 0, the end the one behind it, and nothing follows.
-use borrow.Author.Rules.{rules}
-use Rattle.fields.specs.declared.BoundAt.{BoundAt}
-use Rattle.fields.specs.Forms.{BoundFieldIs}
 use Rattle.fields.proofs.Bounds.{start_lacks, end_lacks, more_left, bounds_here}
 use Rattle.fields.proofs.read_bounds.Goals as goal
 

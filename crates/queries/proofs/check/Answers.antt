@@ -1,10 +1,4 @@
 -- Malformed, or not active; else the verdict is that of the search from the transaction that was found.
-use mathlib.Core.Path.{◌≡◌}
-use borrow.Author.Rules.{rules}
-use lib.ListN.{length}
-use Rattle.layout.specs.Offsets.{id_size}
-use Rattle.places.specs.declared.finds.Place.{Place}
-use Rattle.places.specs.Finds.{Found}
 use Rattle.answers.proofs.SeenLaws.{active_rows, entry_rows}
 use Rattle.answers.proofs.SaidLaws.{said}
 use Rattle.answers.proofs.FoundLaws.{txn_here}

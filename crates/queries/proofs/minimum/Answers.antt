@@ -1,5 +1,4 @@
 -- With nobody active there is no minimum; else the least start from the last number down is the least of all.
-use borrow.Author.Rules.{rules}
 use Rattle.answers.proofs.SeenLaws.{active_rows}
 use Rattle.answers.proofs.SaidLaws.{said}
 use Rattle.queries.proofs.QueryLaws.{nobody, least_is}

@@ -1,6 +1,5 @@
 -- The stamp decides; the other numbers are read where they stand.
 use native.Mathlib.Omega.{arith}
-use borrow.Author.Rules.{rules}
 use Rattle.room.proofs.HeadLaws.{head_other, head_is}
 use Rattle.room.proofs.head.Goals as goal
 

@@ -2,7 +2,6 @@
 use native.Mathlib.Omega.{arith}
 use Rattle.room.proofs.FirstLaws.{opening_more}
 use Rattle.room.proofs.OpenLaws.{too_small}
-use borrow.Author.Rules.{rules}
 use Rattle.room.proofs.open.Goals as goal
 
 pub returns-then-room-lt-SIZE : goal.returns-then-room-lt-SIZE

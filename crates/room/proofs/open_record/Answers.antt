@@ -1,14 +1,6 @@
 -- The head, the entries and the active ones are read one after another: the first that is missing, or totals that are not sound, make it no state.
 use mathlib.Core.Path.{sym, ◌∙◌}
-use borrow.Author.Rules.{rules}
-use Rattle.keys.specs.Limit.{key_limit}
-use Rattle.layout.specs.Offsets.{entries_at}
-use Rattle.layout.specs.Records.{below_id}
-use Rattle.layout.specs.Keys.{any_order}
-use Rattle.room.specs.Walks.{Got}
-use Rattle.room.specs.Counts.{an_entry, a_txn, run_of}
 use Rattle.room.proofs.GoingLaws.{can_join}
-use Rattle.room.specs.Views.{HeadIs}
 use Rattle.room.proofs.OpenLaws.{no_head, no_entries, no_active, not_sound, seen}
 use Rattle.room.proofs.open_record.Goals as goal
 

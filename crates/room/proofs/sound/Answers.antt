@@ -1,9 +1,5 @@
 -- Each test is one of the conjuncts of `soundly`, in its order.
-use mathlib.Core.Path.{◌≡◌}
-use mathlib.Core.Bool.{true, ◌&&◌}
 use borrow.Author.Tests.{le-leb, lt-leb, lt-ltb, le-ltb}
-use lib.Dec.{leb}
-use Rattle.machine.specs.State.{base}
 use Rattle.room.proofs.sound.Goals as goal
 
 pub returns-then-top-gt-ACTIVE_LIMIT : goal.returns-then-top-gt-ACTIVE_LIMIT

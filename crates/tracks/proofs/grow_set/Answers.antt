@@ -1,12 +1,7 @@
 -- The set's keys are copied behind the first two bytes of a draft, added to there, and the draft's record takes the set's place:
 -- what the draft holds is what the room's set becomes.
-use Prim.Native.Nat.{◌+◌, ◌-◌}
-use Rattle.layout.specs.Offsets.{count_size}
-use Rattle.tracks.specs.declared.drafts.Drafted.{Drafted}
-use Rattle.tracks.specs.Drafts.{DraftedIs}
 use native.Mathlib.Omega.{arith}
-use Rattle.tracks.proofs.GrowLaws.{head_inside, Copied, Inside, set_inside, lent, fits_draft, copied, begun, not_grown, in_draft, more_keys, can_put, grown}
-use borrow.Author.Rules.{rules}
+use Rattle.tracks.proofs.GrowLaws.{head_inside, set_inside, fits_draft, copied, begun, not_grown, in_draft, more_keys, can_put, grown}
 use Rattle.tracks.proofs.grow_set.Goals as goal
 
 pub read_two-count-requires : goal.read_two-count-requires

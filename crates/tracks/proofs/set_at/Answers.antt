@@ -1,7 +1,6 @@
 -- The writes stand behind the id and the start, and the reads where the writes end.
 use Rattle.places.proofs.EndLaws.{writes_here}
 use Rattle.tracks.proofs.SetLaws.{writes_at_lem, reads_at}
-use borrow.Author.Rules.{rules}
 use Rattle.tracks.proofs.set_at.Goals as goal
 
 pub set_past-requires : goal.set_past-requires

@@ -1,20 +1,12 @@
 -- Answered in the table's order: malformed, a key too long, not active, full; else the set with the list's keys takes the old one's place.
-use mathlib.Core.Path.{◌≡◌, sym, ◌∙◌, subst}
+use mathlib.Core.Path.{sym, ◌∙◌, subst}
 use mathlib.Core.Logic.{inl, inr}
 use native.Mathlib.Omega.{arith}
-use lib.ListN.{length}
-use Rattle.fields.specs.declared.Form.{Form}
-use Rattle.fields.specs.Fields.{key_list}
-use Rattle.fields.specs.Forms.{form_of}
-use Rattle.layout.specs.Offsets.{id_size}
-use Rattle.places.specs.declared.finds.Place.{Place}
-use Rattle.places.specs.Finds.{Found}
 use Rattle.answers.proofs.SaidLaws.{said}
 use Rattle.answers.proofs.SeenLaws.{active_rows}
 use Rattle.answers.proofs.FoundLaws.{within, txn_here}
 use Rattle.tracks.specs.Tracks.{GrownIs}
 use Rattle.tracks.proofs.KeysLaws.{keys_refused, keys_too_long, keys_absent, growable, keys_full, keys_done}
-use borrow.Author.Rules.{rules}
 use Rattle.tracks.proofs.track_keys.Goals as goal
 
 pub returns-then-id-ne-ID : goal.returns-then-id-ne-ID

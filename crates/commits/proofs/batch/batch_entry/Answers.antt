@@ -1,12 +1,8 @@
 -- Answered in order: malformed, a key too long, nobody active (the list is emptied), as many entries as there may be; else the keys are entered.
 use Rattle.answers.proofs.SaidLaws.{said}
 use Rattle.commits.proofs.BatchLaws.{batch_no_list, batch_over_long, batch_nobody, batch_many, entering}
-use Rattle.fields.specs.Fields.{key_list}
-use Rattle.fields.specs.Forms.{form_of}
-use Rattle.fields.specs.declared.Form.{Form}
-use mathlib.Core.Path.{◌≡◌, sym, ◌∙◌}
+use mathlib.Core.Path.{sym, ◌∙◌}
 use native.Mathlib.Omega.{arith}
-use borrow.Author.Rules.{rules}
 use Rattle.commits.proofs.batch.batch_entry.Goals as goal
 
 pub returns-in-Malformed : goal.returns-in-Malformed

@@ -3,12 +3,7 @@ use Rattle.answers.proofs.SaidLaws.{said}
 use Rattle.answers.proofs.FoundLaws.{within}
 use Rattle.tracks.proofs.DraftLaws.{zeros, zeros_long}
 use Rattle.commits.proofs.BatchLaws.{begun, set_inside, batch_room, room_for_last, batch_entered, batch_over}
-use Rattle.machine.specs.State.{base}
-use Rattle.tracks.specs.Drafts.{DraftedIs}
-use Rattle.tracks.specs.declared.drafts.Drafted.{Drafted}
-use Prim.Native.Nat.{◌-◌}
 use native.Mathlib.Omega.{arith}
-use borrow.Author.Rules.{rules}
 use Rattle.commits.proofs.batch.enter_keys.Goals as goal
 
 pub overflow_sub-marks : goal.overflow_sub-marks

@@ -4,12 +4,8 @@ use Rattle.answers.proofs.SeenLaws.{active_rows}
 use Rattle.commits.proofs.CommitLaws.{commit_refused, commit_unknown, commit_only, commit_many, commit_leaving, commit_entered}
 use Rattle.answers.proofs.LeftLaws.{here_bounds}
 use Rattle.places.specs.Finds.{Found}
-use Rattle.places.specs.declared.finds.Place.{Place}
-use mathlib.Core.Path.{◌≡◌, subst}
+use mathlib.Core.Path.{subst}
 use native.Mathlib.Omega.{arith}
-use lib.ListN.{length}
-use Rattle.layout.specs.Offsets.{id_size}
-use borrow.Author.Rules.{rules}
 use Rattle.commits.proofs.commit.commit_active.Goals as goal
 
 pub returns-then-id-ne-ID : goal.returns-then-id-ne-ID

@@ -2,8 +2,7 @@
 use native.Mathlib.Omega.{arith}
 use Rattle.places.proofs.EndLaws.{here_of, writes_here}
 use Rattle.tracks.proofs.DraftLaws.{zeros, zeros_long}
-use Rattle.commits.proofs.LeaveLaws.{Span, writes_span, copy_fits, copied_fits, entry_fits, entered}
-use borrow.Author.Rules.{rules}
+use Rattle.commits.proofs.LeaveLaws.{writes_span, copy_fits, copied_fits, entry_fits, entered}
 use Rattle.commits.proofs.commit.enter_writes.Goals as goal
 
 pub set_past-past-requires : goal.set_past-past-requires

@@ -2,15 +2,11 @@
 use Rattle.answers.proofs.SaidLaws.{said}
 use Rattle.answers.proofs.SeenLaws.{active_rows}
 use Rattle.commits.proofs.DropLaws.{drop_refused, drop_unknown, drop_prunable, drop_known}
-use Rattle.answers.proofs.LeftLaws.{Bounds, here_bounds}
+use Rattle.answers.proofs.LeftLaws.{here_bounds}
 use Rattle.commits.proofs.PrunableLaws.{seen_prunable}
 use Rattle.places.specs.Finds.{Found}
-use Rattle.places.specs.declared.finds.Place.{Place}
-use mathlib.Core.Path.{◌≡◌, subst}
+use mathlib.Core.Path.{subst}
 use native.Mathlib.Omega.{arith}
-use lib.ListN.{length}
-use Rattle.layout.specs.Offsets.{id_size}
-use borrow.Author.Rules.{rules}
 use Rattle.commits.proofs.drop.drop_active.Goals as goal
 
 pub returns-then-id-ne-ID : goal.returns-then-id-ne-ID

@@ -1,5 +1,4 @@
 -- Of the heads the number and the two counts are written; the heads are then all that is used.
-use borrow.Author.Rules.{rules}
 use Rattle.edits.proofs.RecycleLaws.{empties}
 use Rattle.edits.proofs.leaving.empty_recent_committed_txns.Goals as goal
 

@@ -1,12 +1,5 @@
 -- Invariant: of the entries before the cursor the kept ones stand together up to `end`, and from it on the bytes are as they were (`Pruning`).
-use Prim.Native.Nat.{◌≤◌, ◌<◌}
-use mathlib.Core.Path.{ap}
-use lib.ListN.{length}
-use native.Mathlib.Omega.{arith}
-use borrow.Author.Rules.{rules}
-use Rattle.places.specs.declared.cursor.Cursor.{Cursor}
-use Rattle.places.proofs.SplitLaws.{turn}
-use Rattle.edits.proofs.PruneLaws.{Pruning, Moving, prune_start, here, room_for_seq, ahead, prune_drop, prune_keep, prune_end}
+use Rattle.edits.proofs.PruneLaws.{Pruning}
 use Rattle.edits.proofs.leaving.prune_entries.Given as goal
 
 abbrev pub invariant-loop-c : goal.invariant-loop-c

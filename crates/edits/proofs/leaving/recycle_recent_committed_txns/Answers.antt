@@ -1,7 +1,6 @@
 -- With nobody active the list is emptied; otherwise the kept entries close up and their count is written.
 use Rattle.edits.proofs.RecycleLaws.{recycle_room, recycle_nobody, recycle_entries, recycle_active, recycle_inside, recycle_some}
 use native.Mathlib.Omega.{arith}
-use borrow.Author.Rules.{rules}
 use Rattle.edits.proofs.leaving.recycle_recent_committed_txns.Goals as goal
 
 pub empty_recent_committed_txns-requires : goal.empty_recent_committed_txns-requires

@@ -1,6 +1,5 @@
 -- What was read is the last number, so the larger of both is what is written.
 use Rattle.edits.proofs.OracleLaws.{advances}
-use borrow.Author.Rules.{rules}
 use Rattle.edits.proofs.oracle.advance_committed_seq.Goals as goal
 
 pub returns : goal.returns

@@ -1,6 +1,5 @@
 -- The view of a room that opens is what the check asks for; a room that does not open is answered 7 and left as it was.
 use Rattle.answers.proofs.SeenLaws.{seen_nothing}
-use borrow.Author.Rules.{rules}
 use Rattle.manager.proofs.transaction_manager.check_has_conflict.Goals as goal
 
 pub check-requires : goal.check-requires

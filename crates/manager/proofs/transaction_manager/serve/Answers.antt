@@ -1,7 +1,5 @@
 -- A room that opens is handed on with its view to what is asked, and one that does not has status 7.
-use Rattle.room.specs.Views.{Seen}
 use Rattle.answers.proofs.SeenLaws.{seen_nothing}
-use borrow.Author.Rules.{rules}
 use Rattle.manager.proofs.transaction_manager.serve.Goals as goal
 
 pub begin-requires : goal.begin-requires

@@ -1,6 +1,5 @@
 -- A bound ends behind its tag, its length and its key.
 use native.Mathlib.Omega.{arith}
-use borrow.Author.Rules.{rules}
 use Rattle.layout.proofs.OpenLaws.{open_key, open_bound}
 use Rattle.places.proofs.EndLaws.{ends_at, bound_end}
 use Rattle.places.proofs.skips.bound_past.Goals as goal

@@ -1,7 +1,6 @@
 -- An entry ends where its keys do.
 use Rattle.layout.proofs.OpenLaws.{open_entry}
 use Rattle.places.proofs.EndLaws.{here_of, ends_as}
-use borrow.Author.Rules.{rules}
 use Rattle.places.proofs.skips.entry_past.Goals as goal
 
 pub set_past-requires : goal.set_past-requires

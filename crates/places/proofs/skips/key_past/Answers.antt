@@ -1,6 +1,5 @@
 -- A key ends behind its length and its bytes.
 use native.Mathlib.Omega.{arith}
-use borrow.Author.Rules.{rules}
 use Rattle.layout.proofs.OpenLaws.{open_key}
 use Rattle.places.proofs.EndLaws.{ends_at, key_end}
 use Rattle.places.proofs.skips.key_past.Goals as goal

@@ -1,11 +1,7 @@
 -- The cursor stands before records that end where the list does.
-use native.Mathlib.Omega.{arith}
-use mathlib.Core.Path.{ap}
 use Rattle.layout.specs.Offsets.{any_length}
 use Rattle.layout.specs.Keys.{range_form, ranges_form}
-use Rattle.layout.proofs.OpenLaws.{open_ranges}
-use Rattle.places.specs.declared.cursor.Cursor.{Cursor}
-use Rattle.places.proofs.EndLaws.{Walk, ranges_walk, walk_here, walk_next, walk_ends}
+use Rattle.places.proofs.EndLaws.{Walk}
 use Rattle.places.proofs.skips.ranges_past.Given as goal
 
 abbrev pub invariant-loop-c : goal.invariant-loop-c

@@ -1,11 +1,7 @@
 -- The cursor stands before records that end where the set does.
-use native.Mathlib.Omega.{arith}
-use mathlib.Core.Path.{ap}
 use Rattle.layout.specs.Offsets.{any_length}
 use Rattle.layout.specs.Keys.{key_form, set_form}
-use Rattle.layout.proofs.OpenLaws.{open_set}
-use Rattle.places.specs.declared.cursor.Cursor.{Cursor}
-use Rattle.places.proofs.EndLaws.{Walk, set_walk, walk_here, walk_next, walk_ends}
+use Rattle.places.proofs.EndLaws.{Walk}
 use Rattle.places.proofs.skips.set_past.Given as goal
 
 abbrev pub invariant-loop-c : goal.invariant-loop-c

@@ -1,6 +1,5 @@
 -- Writes, reads and ranges follow each other, and the transaction ends where the ranges do.
 use Rattle.places.proofs.EndLaws.{writes_here, reads_here, ranges_fills, ranges_here, ends_as}
-use borrow.Author.Rules.{rules}
 use Rattle.places.proofs.skips.txn_past.Goals as goal
 
 pub set_past-requires : goal.set_past-requires

@@ -1,5 +1,4 @@
 -- A bounded end is joined to the prefix; an open one is the prefix's increment.
-use borrow.Author.Rules.{rules}
 use mathlib.Core.Path.{sym, ap, ◌∙◌}
 use native.Mathlib.Omega.{arith}
 use Rattle.ranges.specs.Made.{made_bound}

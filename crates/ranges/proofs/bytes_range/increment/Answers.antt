@@ -1,5 +1,4 @@
 -- The increment is that of the prefix up to the last byte that can be raised, and there is none where no byte can.
-use borrow.Author.Rules.{rules}
 use mathlib.Core.Path.{sym, ap, ◌∙◌}
 use native.Mathlib.Omega.{arith}
 use lib.Seq.{length-take-le}

@@ -1,5 +1,4 @@
 -- The prefix is pasted, and its last byte raised.
-use borrow.Author.Rules.{rules}
 use native.Mathlib.Omega.{arith}
 use Rattle.ranges.proofs.MadeLaws.{front_bytes}
 use Rattle.ranges.proofs.MakingLaws.{raised_bytes}

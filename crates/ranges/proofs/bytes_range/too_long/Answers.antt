@@ -1,5 +1,4 @@
 -- Only a bounded key can be over the limit.
-use borrow.Author.Rules.{rules}
 use mathlib.Core.Path.{sym, ◌∙◌}
 use Rattle.ranges.proofs.MakingLaws.{long_shut, long_open}
 use Rattle.ranges.proofs.bytes_range.too_long.Goals as goal

@@ -1,12 +1,8 @@
 -- An open bound has no key, a key over the limit is refused, and otherwise the two parts are pasted one behind the other.
-use borrow.Author.Rules.{rules}
-use mathlib.Core.Path.{◌≡◌, sym, ◌∙◌}
-use mathlib.Core.Bool.{true}
+use mathlib.Core.Path.{sym, ◌∙◌}
 use mathlib.Core.List.{◌++◌}
 use native.Mathlib.Omega.{arith}
-use borrow.Author.Tests.{not-true, not-false}
 use lib.ListN.{length-append}
-use Rattle.kinds.specs.Bounds.{is_bounded}
 use Rattle.ranges.proofs.MadeLaws.{made_open, made_long, front_bytes, joined_bytes}
 use Rattle.ranges.proofs.made.joined.Goals as goal
 

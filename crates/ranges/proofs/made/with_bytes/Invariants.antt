@@ -1,11 +1,8 @@
 -- The first i bytes of src are pasted at the place.
 use Prim.Native.Nat.{◌-◌, ◌≤◌}
-use mathlib.Core.Path.{◌≡◌, ap, ◌∙◌}
-use native.Mathlib.Omega.{arith}
-use native.Mathlib.Numerals.{add-one}
-use borrow.Author.Rules.{rules}
+use mathlib.Core.Path.{◌≡◌}
 use lib.ListN.{length}
-use lib.Seq.{paste, paste-zero, paste-suc}
+use lib.Seq.{paste}
 use Rattle.ranges.proofs.made.with_bytes.Given as goal
 
 abbrev pub invariant-loop-i : goal.invariant-loop-i

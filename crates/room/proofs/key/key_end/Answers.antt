@@ -1,6 +1,5 @@
 -- A key is cut where its length, the limit or the bytes run out; otherwise it is what its length says.
 use native.Mathlib.Omega.{arith}
-use borrow.Author.Rules.{rules}
 use Rattle.room.proofs.KeyLaws.{key_short, key_long, key_cut, key_got}
 use Rattle.room.proofs.key.key_end.Goals as goal
 

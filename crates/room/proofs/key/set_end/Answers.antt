@@ -1,5 +1,4 @@
 -- A set is its count and so many ascending keys.
-use borrow.Author.Rules.{rules}
 use Rattle.keys.specs.Limit.{key_limit}
 use Rattle.room.proofs.ListLaws.{set_short, set_ends}
 use Rattle.room.proofs.key.set_end.Goals as goal

@@ -1,7 +1,6 @@
 -- A bound is a tag and a key; each of the three tags has its law, and any other tag is none.
 use mathlib.Core.Path.{refl}
 use native.Mathlib.Omega.{arith}
-use borrow.Author.Rules.{rules}
 use Rattle.room.proofs.RangeLaws.{bound_short, tag_unknown, unbounded_ends, included_ends, excluded_ends}
 use Rattle.room.proofs.range.bound_end.Goals as goal
 

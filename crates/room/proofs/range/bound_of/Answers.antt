@@ -1,5 +1,4 @@
 -- A bound ends where its key does, and is cut where its key is (`bound_walked`).
-use borrow.Author.Rules.{rules}
 use Rattle.room.proofs.range.bound_of.Goals as goal
 
 pub returns-in-Ends : goal.returns-in-Ends

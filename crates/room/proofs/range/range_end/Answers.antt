@@ -1,9 +1,6 @@
 -- A range is two bounds whose pair is not empty.
 use mathlib.Core.Path.{sym, ◌∙◌}
 use native.Mathlib.Omega.{arith}
-use borrow.Author.Rules.{rules}
-use Rattle.keys.specs.Limit.{key_limit}
-use Rattle.room.specs.BoundWalks.{BoundEnds}
 use Rattle.room.proofs.RangeLaws.{no_start, no_end, judged, range_empty, range_got}
 use Rattle.room.proofs.range.range_end.Goals as goal
 

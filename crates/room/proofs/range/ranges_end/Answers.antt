@@ -1,5 +1,4 @@
 -- A list of ranges is its count and so many ranges.
-use borrow.Author.Rules.{rules}
 use Rattle.keys.specs.Limit.{key_limit}
 use Rattle.room.proofs.ListLaws.{ranges_short, ranges_ends}
 use Rattle.room.proofs.range.ranges_end.Goals as goal

@@ -1,12 +1,7 @@
 -- Invariant: of the n transactions those before t.end are read, ascending by id and counted, and the last of them stands at p (`Going`).
-use mathlib.Core.Path.{sym, ◌∙◌}
-use native.Mathlib.Omega.{arith}
-use borrow.Author.Tests.{not-true, not-false}
-use borrow.Author.Rules.{rules}
 use Rattle.keys.specs.Limit.{key_limit}
-use Rattle.room.specs.Walks.{Got}
 use Rattle.room.specs.Chains.{the_txns}
-use Rattle.room.proofs.GoingLaws.{Going, going_start, going_apart, going_next, going_unfit, going_join, going_cut, going_end}
+use Rattle.room.proofs.GoingLaws.{Going}
 use Rattle.room.proofs.EntryLaws.{txns_linked}
 use Rattle.room.proofs.record.active_end.Given as goal
 

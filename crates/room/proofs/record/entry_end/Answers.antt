@@ -1,5 +1,4 @@
 -- An entry is a sequence and a set, and cut where either is; its highest number is the sequence.
-use borrow.Author.Rules.{rules}
 use Rattle.room.proofs.EntryLaws.{entry_short, entry_cut, entry_got}
 use Rattle.room.proofs.record.entry_end.Goals as goal
 

@@ -1,7 +1,6 @@
 -- The answer is that of comparing the two ids; the first id follows nothing.
 use native.Mathlib.Omega.{arith}
 use borrow.Author.Tests.{eq-eqb}
-use borrow.Author.Rules.{rules}
 use Rattle.room.proofs.ChainLaws.{follows_by}
 use Rattle.room.proofs.record.id_follows.Goals as goal
 

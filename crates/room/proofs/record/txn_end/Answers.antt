@@ -1,11 +1,5 @@
 -- A transaction is an id, a start, two sets and a list of ranges; the first of them that is missing cuts it.
-use Prim.Native.Nat.{◌+◌}
 use native.Mathlib.Omega.{arith}
-use borrow.Author.Rules.{rules}
-use Rattle.layout.specs.Offsets.{writes_at}
-use Rattle.keys.specs.Limit.{key_limit}
-use Rattle.room.specs.Walks.{Got}
-use Rattle.room.specs.Counts.{a_set, some_ranges}
 use Rattle.room.proofs.EntryLaws.{txn_short, no_writes, no_reads, no_ranges, join_ranges, txn_got}
 use Rattle.room.proofs.GoingLaws.{can_join}
 use Rattle.room.proofs.record.txn_end.Goals as goal

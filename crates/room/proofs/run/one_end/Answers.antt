@@ -1,5 +1,4 @@
 -- One ends where the entry or the range does, by what it is.
-use borrow.Author.Rules.{rules}
 use Rattle.room.proofs.run.one_end.Goals as goal
 
 pub returns-in-Entry : goal.returns-in-Entry

@@ -3,7 +3,6 @@ use mathlib.Core.Path.{subst}
 use native.Mathlib.Omega.{arith}
 use Rattle.tracks.specs.Sets.{InsertedIs}
 use Rattle.tracks.proofs.DraftLaws.{keys_ready, none_added, end_inside, all_added}
-use borrow.Author.Rules.{rules}
 use Rattle.tracks.proofs.drafts.draft_keys.Goals as goal
 
 pub insert_all-requires : goal.insert_all-requires

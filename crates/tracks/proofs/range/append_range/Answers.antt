@@ -2,7 +2,6 @@
 use native.Mathlib.Omega.{arith}
 use Rattle.places.proofs.EndLaws.{writes_here, reads_here}
 use Rattle.tracks.proofs.AppendLaws.{txn_stands, count_inside, few_ranges, appended}
-use borrow.Author.Rules.{rules}
 use Rattle.tracks.proofs.range.append_range.Goals as goal
 
 pub set_past-requires : goal.set_past-requires

@@ -1,14 +1,8 @@
 -- The verdict by the places of the two keys is the verdict on the range that the bounds are read as.
-use Prim.Native.Nat.{ℕ, ◌-◌, ◌≤◌, ◌<◌}
 use mathlib.Core.Path.{sym, ◌∙◌}
 use mathlib.Core.Logic.{⊎_map}
 use native.Mathlib.Omega.{arith}
-use borrow.Author.Tests.{ltb-true, ltb-false}
-use lib.ListN.{get_or}
-use Rattle.keys.specs.Limit.{key_limit}
-use Rattle.fields.specs.Forms.{BoundsAt}
 use Rattle.tracks.proofs.JudgeLaws.{keys_within, judged_malformed, judged_long, judged_good, judged_empty}
-use borrow.Author.Rules.{rules}
 use Rattle.tracks.proofs.range.check_range.Goals as goal
 
 pub overflow_sub-start_size : goal.overflow_sub-start_size

@@ -1,21 +1,11 @@
 -- Answered in the table's order: malformed, a key too long, an empty range, not active, full; else the range stands behind the others.
-use Prim.Native.Nat.{ℕ, ◌<◌}
-use mathlib.Core.Path.{◌≡◌, sym, ◌∙◌}
-use mathlib.Core.Logic.{inl, inr, ⊎_map}
+use mathlib.Core.Path.{sym, ◌∙◌}
+use mathlib.Core.Logic.{inl, inr}
 use native.Mathlib.Omega.{arith}
-use borrow.Author.Tests.{ltb-true, ltb-false}
-use lib.ListN.{length, get_or}
-use Rattle.fields.specs.Fields.{bounds_of}
-use Rattle.layout.specs.Offsets.{id_size}
-use Rattle.places.specs.declared.finds.Place.{Place}
-use Rattle.places.specs.Finds.{Found}
-use Rattle.tracks.specs.declared.range.Judged.{Judged}
-use Rattle.tracks.specs.Ranges.{judged}
 use Rattle.answers.proofs.SaidLaws.{said}
 use Rattle.answers.proofs.SeenLaws.{active_rows}
 use Rattle.answers.proofs.FoundLaws.{within}
 use Rattle.tracks.proofs.RangeLaws.{range_refused, range_too_long, range_is_empty, range_absent, range_full, appendable, range_done}
-use borrow.Author.Rules.{rules}
 use Rattle.tracks.proofs.range.track_range.Goals as goal
 use Rattle.tracks.proofs.range.track_range.Goals.{then-marks-ge-MARK_LIMIT-via-then-marks-ge-MARK_LIMIT, then-marks-ge-MARK_LIMIT-via-else-marks-ge-MARK_LIMIT+then-bytes-size}
 

@@ -1,6 +1,6 @@
 -- The two kinds and the two keys that are tested are those of the range under the cursor.
 use native.Mathlib.Omega.{arith}
-use Rattle.places.proofs.MarkLaws.{start_here, end_here, Spans, spans, in_range}
+use Rattle.places.proofs.MarkLaws.{start_here, end_here, spans, in_range}
 use borrow.Author.Rules.{rules}
 use Rattle.places.proofs.cursor.Cursor.holds.Goals as goal
 

@@ -1,5 +1,4 @@
 -- By the two kinds: only two included bounds with equal keys make a point.
-use borrow.Author.Rules.{rules}
 use Rattle.ranges.proofs.bytes_range.BytesRange.as_point.Goals as goal
 
 pub returns-in-Included-end : goal.returns-in-Included-end

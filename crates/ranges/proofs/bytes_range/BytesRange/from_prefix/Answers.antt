@@ -1,5 +1,4 @@
 -- A prefix's range is its subrange of everything.
-use borrow.Author.Rules.{rules}
 use mathlib.Core.Path.{sym, ap, ◌∙◌}
 use Rattle.ranges.specs.Making.{made_range}
 use Rattle.ranges.proofs.PrefixLaws.{prefix_is_subrange}

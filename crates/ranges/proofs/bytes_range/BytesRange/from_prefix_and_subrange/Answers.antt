@@ -1,5 +1,4 @@
 -- A prefix over the limit makes a start over the limit; otherwise the range lies between the two made bounds.
-use borrow.Author.Rules.{rules}
 use mathlib.Core.Path.{◌∙◌}
 use native.Mathlib.Omega.{arith}
 use Rattle.kinds.specs.Bounds.{bound}

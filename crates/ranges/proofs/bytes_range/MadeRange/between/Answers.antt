@@ -1,9 +1,7 @@
 -- Bounds that were made read back as the bounds that they were made of, so that the new range's verdict is theirs.
 use mathlib.Core.Path.{◌≡◌, sym, ◌∙◌}
-use Rattle.kinds.specs.Bounds.{Bound}
 use Rattle.bounds.specs.Ranges.{range}
 use Rattle.ranges.specs.declared.made.Making.TheVariants.{Done}
-use Rattle.ranges.specs.Made.{made, made_bound}
 use Rattle.ranges.specs.Making.{new_of}
 use Rattle.ranges.proofs.Between.{was_made, was_long, read_back, long_start, long_end, stands, falls}
 use Rattle.ranges.proofs.bytes_range.MadeRange.between.Goals as goal

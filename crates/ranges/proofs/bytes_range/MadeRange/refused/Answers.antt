@@ -1,5 +1,4 @@
 -- Both bounds are the one that is nothing.
-use borrow.Author.Rules.{rules}
 use Rattle.ranges.proofs.bytes_range.MadeRange.refused.Goals as goal
 
 pub returns : goal.returns

@@ -1,5 +1,4 @@
 -- Nothing is the padding of no bytes.
-use borrow.Author.Rules.{rules}
 use Rattle.kinds.specs.declared.kind.Kind.TheVariants.{Unbounded}
 use Rattle.ranges.specs.Made.{made_of}
 use Rattle.ranges.proofs.made.Made.nothing.Goals as goal

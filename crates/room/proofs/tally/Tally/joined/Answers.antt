@@ -1,5 +1,4 @@
 -- What two tallies count together stays within the place that they end at, so no sum overflows.
-use borrow.Author.Rules.{rules}
 use Rattle.room.proofs.tally.Tally.joined.Goals as goal
 
 pub returns : goal.returns

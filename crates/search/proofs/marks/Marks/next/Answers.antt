@@ -1,5 +1,4 @@
 -- The first cursor that is not over goes past its record, and the other marks stay.
-use borrow.Author.Rules.{rules}
 use Rattle.search.proofs.LeftLaws.{write_turn, read_turn, range_turn, turn_here}
 use Rattle.search.proofs.marks.Marks.next.Goals as goal
 

@@ -1,5 +1,4 @@
 -- Writes, reads and ranges stand one behind the other, each a list behind its count.
-use borrow.Author.Rules.{rules}
 use Rattle.places.proofs.EndLaws.{writes_here, reads_here, ranges_here}
 use Rattle.search.proofs.LeftLaws.{set_room, ranges_room, marks_at}
 use Rattle.search.proofs.marks.Marks.of.Goals as goal
