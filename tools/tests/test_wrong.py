@@ -128,13 +128,12 @@ class Runs(unittest.TestCase):
         self.assertEqual(len(runs_of([first, second, third], True)), 3)
 
     def test_a_caller_that_the_search_proves_is_not_tried_beside_what_it_calls(self):
-        calls = {"Kind::tie_of": {"Kind::tie_of", "Kind::tie"}, "Kind::tie": {"Kind::tie"}}
-        caller, callee = answer("Kind::tie_of", crate="kinds"), answer("Kind::tie", crate="kinds")
-        self.assertTrue(has_answers(callee))
-        self.assertFalse(has_answers(caller))
+        calls = {"Kind::compare_start": {"Kind::compare_start", "Kind::tie"}, "Kind::tie": {"Kind::tie", "Kind::admits_to"}}
+        caller, callee, below = (answer(name, crate="kinds") for name in ("Kind::compare_start", "Kind::tie", "Kind::admits_to"))
+        self.assertEqual([has_answers(it) for it in (caller, callee, below)], [False, True, True])
         self.assertTrue(waits(caller, callee, calls))
         self.assertFalse(waits(callee, caller, calls))
-        self.assertFalse(waits(answer("Kind::tie", crate="kinds"), answer("Kind::tie_of", crate="kinds"), {"Kind::tie": {"Kind::tie_of"}}))
+        self.assertFalse(waits(callee, below, calls))
         self.assertIn("Kind::tie", reached("kinds")["Kind::compare_start"])
 
     def test_what_stands_on_a_crate(self):
