@@ -39,11 +39,21 @@ def is_from_ci(crate):
     return all(pathlib.Path(it.rlib, "format").exists() and not pathlib.Path(it.rlib).with_name("stamp").exists() for it in crate.below())
 
 
+# The libraries that rt did not build.
+broken = set()
+
+
 def build_below(crate):
     """Has rt prove and build each library below the crate that is not built, or not from these sources."""
     for it in crate.below():
+        if it.name in broken:
+            raise Failed(f"{it.name}, which {crate.name} stands on, is not built")
         if not it.is_built():
-            call("lib", it)
+            try:
+                call("lib", it)
+            except Failed:
+                broken.add(it.name)
+                raise
 
 
 def call(command, crate, given=None):
