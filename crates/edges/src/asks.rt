@@ -4,12 +4,13 @@ ghost use Rattle.std.specs.Prelude.{◌+◌, ◌≤◌};
 use crate::lists::{put_field, put_keys};
 use answers::Answer;
 use fields::{EXCLUDED, INCLUDED, UNBOUNDED};
-use libc::STDOUT_FILENO;
 use manager::transaction_manager::{
     drop_txn, new_transaction, track_read_keys, track_read_range, track_recent_committed_txn,
     track_recent_committed_write_batch, track_write_keys,
 };
 use room::ceilings::SIZE;
+use std::io;
+use std::io::Stdout;
 
 // Place for 65 keys of 512 bytes, and for the number of one more.
 const LIST: usize = 33480;
@@ -20,13 +21,11 @@ const BOUNDS: usize = 519;
 // The transaction that tracks.
 const A: u8 = 1;
 
-pub fn say(asked: &[u8], answer: Answer) {
-    io::write_all(STDOUT_FILENO, asked);
-    io::write_all(STDOUT_FILENO, b": ");
-    io::print_decimal(STDOUT_FILENO, answer.status as u64);
-    io::write_all(STDOUT_FILENO, b" ");
-    io::print_decimal(STDOUT_FILENO, answer.value);
-    io::write_all(STDOUT_FILENO, b"\n");
+pub fn say(out: &Stdout, asked: &[u8], answer: Answer) -> io::Result<()> {
+    let status = answer.status;
+    let value = answer.value;
+    out.write_all(asked)?;
+    println!(out; ": {status} {value}")
 }
 
 pub fn begin(room: &mut [u8; SIZE], id: u8) -> Answer {

@@ -2,19 +2,21 @@
 #![tactic(auto)]
 
 use room::ceilings::SIZE;
+use std::io;
 
 mod asks;
 mod cases;
 mod lists;
 
-fn main() {
-    cases::rooms();
+fn main(rt: HostRuntime) -> io::Result<()> {
+    let out = rt.stdout();
+    cases::rooms(&out)?;
     let mut room = [0u8; SIZE];
-    cases::ids(&mut room);
-    cases::long_keys(&mut room);
-    cases::long_bounds(&mut room);
-    cases::active(&mut room);
-    cases::marks(&mut room);
-    cases::key_bytes(&mut room);
-    cases::entries(&mut room);
+    cases::ids(&out, &mut room)?;
+    cases::long_keys(&out, &mut room)?;
+    cases::long_bounds(&out, &mut room)?;
+    cases::active(&out, &mut room)?;
+    cases::marks(&out, &mut room)?;
+    cases::key_bytes(&out, &mut room)?;
+    cases::entries(&out, &mut room)
 }

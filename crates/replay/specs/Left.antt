@@ -1,5 +1,4 @@
 -- What is left of a piece of input.
-use Prim.{Unit}
 use Rattle.std.specs.Prelude.{ℕ, ◌+◌, ◌≤◌, ◌<◌, List, length}
 use Rattle.script.specs.Stream.{payload_limit}
 use Rattle.replay.specs.declared.Left.{Left}
@@ -15,4 +14,3 @@ pub record Stopped (piece : List ℕ) (at : ℕ) : Type 0 where
 abbrev pub LeftIs : List ℕ → Left → Type 0
 LeftIs piece (Left.More at) = Held piece at
 LeftIs piece (Left.Stop at) = Stopped piece at
-LeftIs piece Left.Lost = Unit {0}

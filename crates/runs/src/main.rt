@@ -1,15 +1,16 @@
 // Replays the fixed sample of runs: reads them from standard input and writes a line of answer for each record.
 #![tactic(auto)]
 
-ghost use Rattle.std.specs.Prelude.{◌<◌, length};
+ghost use Rattle.std.specs.Prelude.{◌<◌, ◌≤◌, length, IfOk};
 
 use codec::numbers::read_eight;
-use libc::{STDIN_FILENO, STDOUT_FILENO};
 use manager::transaction_manager::new;
 use room::ceilings::SIZE;
 use script::lines::{LINE_LIMIT, put_line};
 use script::records::{Next, next_record};
 use script::served::serve_record;
+use std::io;
+use std::io::{Read, Stdin, Stdout};
 
 const INPUT_LIMIT: usize = 262144;
 
@@ -22,73 +23,87 @@ const RUN: u8 = 0;
 // The tag, and the number that the run's room is made fresh at.
 const RUN_SIZE: usize = 9;
 
-fn say(status: u8, value: u64) {
+fn say(out: &Stdout, status: u8, value: u64) -> io::Result<()> {
     let mut line = [0u8; LINE_LIMIT];
     let n = put_line(&mut line, 0, status, value);
-    io::write_all(STDOUT_FILENO, &line[0..n]);
+    out.write_all(&line[0..n])
 }
 
-fn say_number(text: &[u8], number: u64) {
-    io::write_all(STDOUT_FILENO, text);
-    io::print_decimal(STDOUT_FILENO, number);
-    io::write_all(STDOUT_FILENO, b"\n");
+fn say_number(out: &Stdout, text: &[u8], number: u64) -> io::Result<()> {
+    out.write_all(text)?;
+    println!(out; "{number}")
 }
 
 // The line that says where the runs do not read.
-fn say_bad(at: usize) {
-    say_number(b"bad ", at as u64);
+fn say_bad(out: &Stdout, at: usize) -> io::Result<()> {
+    say_number(out, b"bad ", at as u64)
 }
 
-fn begin_run(room: &mut [u8; SIZE], runs: &[u8], at: usize) -> usize
+fn begin_run(out: &Stdout, room: &mut [u8; SIZE], runs: &[u8], at: usize) -> io::Result<usize>
     requires { at < length runs.now }
 {
     if runs.len() - at < RUN_SIZE {
-        return at;
+        return Ok(at);
     }
     let last = read_eight(runs, at + 1);
     let answer = new(room, last);
-    say_number(b"run ", answer.value);
-    at + RUN_SIZE
+    say_number(out, b"run ", answer.value)?;
+    Ok(at + RUN_SIZE)
 }
 
 // Serves what stands at a place, and tells where the next stands; the same place where this one does not read.
-fn serve_at(room: &mut [u8; SIZE], runs: &[u8], at: usize) -> usize
+fn serve_at(out: &Stdout, room: &mut [u8; SIZE], runs: &[u8], at: usize) -> io::Result<usize>
     requires { at < length runs.now }
 {
     if runs[at] == RUN {
-        return begin_run(room, runs, at);
+        return begin_run(out, room, runs, at);
     }
     match next_record(runs, at) {
         Next::Whole { tag, from, to } => {
             let answer = serve_record(room, tag, &runs[from..to]);
-            say(answer.status, answer.value);
-            to
+            say(out, answer.status, answer.value)?;
+            Ok(to)
         }
-        Next::More => at,
-        Next::Stop => at,
+        Next::More => Ok(at),
+        Next::Stop => Ok(at),
     }
 }
 
 // What does not read ends the replay with a line of its own, so that a damaged sample can't pass.
-fn replay(room: &mut [u8; SIZE], runs: &[u8]) {
+fn replay(out: &Stdout, room: &mut [u8; SIZE], runs: &[u8]) -> io::Result<()> {
     let mut at = 0;
     while at < runs.len() {
-        let next = serve_at(room, runs, at);
+        let next = serve_at(out, room, runs, at)?;
         if next <= at {
-            say_bad(at);
-            return;
+            return say_bad(out, at);
         }
         at = next;
     }
+    Ok(())
 }
 
-fn main() {
+// Reads until the bytes are full or the input ends, and tells how many it put at their front.
+fn read_full(input: &mut Stdin, bytes: &mut [u8]) -> io::Result<usize>
+    ensures { IfOk result (λ n. n ≤ length bytes.new) }
+{
+    let mut done = 0;
+    while done < bytes.len() {
+        let n = input.read(&mut bytes[done..])?;
+        if n == 0 {
+            return Ok(done);
+        }
+        done += n;
+    }
+    Ok(done)
+}
+
+fn main(rt: HostRuntime) -> io::Result<()> {
+    let out = rt.stdout();
     let mut room = [0u8; SIZE];
     let mut runs = [0u8; INPUT_ROOM];
-    let n = io::read_full(STDIN_FILENO, &mut runs);
+    let n = read_full(&mut rt.stdin(), &mut runs)?;
     if INPUT_LIMIT < n {
-        say_bad(INPUT_LIMIT);
-        return;
+        return say_bad(&out, INPUT_LIMIT);
     }
-    replay(&mut room, &runs[..n]);
+    replay(&out, &mut room, &runs[..n])
 }

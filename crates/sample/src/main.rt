@@ -1,8 +1,11 @@
 // Replays the fixed sample: reads queries from standard input and writes a line of answer for each.
 #![tactic(auto)]
 
-use libc::STDIN_FILENO;
+ghost use Rattle.std.specs.Prelude.{◌≤◌, length, IfOk};
+
 use query::answer_at;
+use std::io;
+use std::io::{Read, Stdin, Stdout};
 use text::put_bad;
 
 mod answer;
@@ -16,24 +19,39 @@ const QUERY_LIMIT: usize = 60000;
 const QUERY_ROOM: usize = QUERY_LIMIT + 1;
 
 // A query that does not read ends the run, so that a damaged sample can't pass.
-fn replay(queries: &[u8]) {
+fn replay(out: &Stdout, queries: &[u8]) -> io::Result<()> {
     let mut at = 0;
     while at < queries.len() {
-        let next = answer_at(queries, at);
+        let next = answer_at(out, queries, at)?;
         if next <= at {
-            put_bad(at);
-            return;
+            return put_bad(out, at);
         }
         at = next;
     }
+    Ok(())
 }
 
-fn main() {
-    let mut queries = [0u8; QUERY_ROOM];
-    let n = io::read_full(STDIN_FILENO, &mut queries);
-    if QUERY_LIMIT < n {
-        put_bad(QUERY_LIMIT);
-        return;
+// Reads until the bytes are full or the input ends, and tells how many it put at their front.
+fn read_full(input: &mut Stdin, bytes: &mut [u8]) -> io::Result<usize>
+    ensures { IfOk result (λ n. n ≤ length bytes.new) }
+{
+    let mut done = 0;
+    while done < bytes.len() {
+        let n = input.read(&mut bytes[done..])?;
+        if n == 0 {
+            return Ok(done);
+        }
+        done += n;
     }
-    replay(&queries[..n]);
+    Ok(done)
+}
+
+fn main(rt: HostRuntime) -> io::Result<()> {
+    let out = rt.stdout();
+    let mut queries = [0u8; QUERY_ROOM];
+    let n = read_full(&mut rt.stdin(), &mut queries)?;
+    if QUERY_LIMIT < n {
+        return put_bad(&out, QUERY_LIMIT);
+    }
+    replay(&out, &queries[..n])
 }

@@ -4,6 +4,8 @@ ghost use Rattle.std.specs.Prelude.{◌<◌, length};
 use crate::answer::answer;
 use crate::field::{Field, field_at, payload};
 use bounds::comparable_range::ComparableRange;
+use std::io;
+use std::io::Stdout;
 
 // Which fields an op takes, in their order.
 #[derive(Clone, Copy)]
@@ -55,7 +57,7 @@ impl Shape {
 
 // Answers the query at a place, and tells where the next one begins; the same place where this one does not read.
 // Fields beyond the op's own are read as well, and no answer uses them.
-pub fn answer_at(queries: &[u8], at: usize) -> usize
+pub fn answer_at(out: &Stdout, queries: &[u8], at: usize) -> io::Result<usize>
     requires { at < length queries.now }
 {
     let op = queries[at];
@@ -65,9 +67,10 @@ pub fn answer_at(queries: &[u8], at: usize) -> usize
     let d = field_at(queries, c.to);
     let shape = Shape::of(op);
     if !shape.fits(a, b, c, d) {
-        return at;
+        return Ok(at);
     }
     answer(
+        out,
         op,
         ComparableRange::new(a.kind(), b.kind()),
         ComparableRange::new(c.kind(), d.kind()),
@@ -75,6 +78,6 @@ pub fn answer_at(queries: &[u8], at: usize) -> usize
         payload(queries, b),
         payload(queries, c),
         payload(queries, d),
-    );
-    shape.end(a, b, c, d)
+    )?;
+    Ok(shape.end(a, b, c, d))
 }

@@ -1,85 +1,91 @@
 // Lines of answers, written to standard output in parts.
 use fields::{EXCLUDED, INCLUDED, UNBOUNDED};
 use kinds::kind::Kind;
-use libc::STDOUT_FILENO;
 use ranges::made::Making;
+use std::io;
+use std::io::Stdout;
 
-pub fn put(text: &[u8]) {
-    io::write_all(STDOUT_FILENO, text);
+pub fn put(out: &Stdout, text: &[u8]) -> io::Result<()> {
+    out.write_all(text)
 }
 
-pub fn put_order(order: i8) {
+pub fn put_order(out: &Stdout, order: i8) -> io::Result<()> {
     if order < 0 {
-        put(b"0 -1\n");
+        put(out, b"0 -1\n")
     } else if order == 0 {
-        put(b"0 0\n");
+        put(out, b"0 0\n")
     } else {
-        put(b"0 1\n");
+        put(out, b"0 1\n")
     }
 }
 
-pub fn put_test(holds: bool) {
+pub fn put_test(out: &Stdout, holds: bool) -> io::Result<()> {
     if holds {
-        put(b"0 1\n");
+        put(out, b"0 1\n")
     } else {
-        put(b"0 0\n");
+        put(out, b"0 0\n")
     }
 }
 
 // Tells whether what was made is to follow: a refusal is the whole line.
-pub fn put_status(making: Making) -> bool {
+pub fn put_status(out: &Stdout, making: Making) -> io::Result<bool> {
     match making {
         Making::Done => {
-            put(b"0 ");
-            true
+            put(out, b"0 ")?;
+            Ok(true)
         }
         Making::LongKey => {
-            put(b"4 -\n");
-            false
+            put(out, b"4 -\n")?;
+            Ok(false)
         }
         Making::EmptyRange => {
-            put(b"5 -\n");
-            false
+            put(out, b"5 -\n")?;
+            Ok(false)
         }
     }
 }
 
-pub fn put_bounds(start: Kind, start_key: &[u8], end: Kind, end_key: &[u8]) {
-    put_bound(start, start_key);
-    put(b" ");
-    put_bound(end, end_key);
-    put(b"\n");
+pub fn put_bounds(
+    out: &Stdout,
+    start: Kind,
+    start_key: &[u8],
+    end: Kind,
+    end_key: &[u8],
+) -> io::Result<()> {
+    put_bound(out, start, start_key)?;
+    put(out, b" ")?;
+    put_bound(out, end, end_key)?;
+    put(out, b"\n")
 }
 
-pub fn put_bound(kind: Kind, key: &[u8]) {
+pub fn put_bound(out: &Stdout, kind: Kind, key: &[u8]) -> io::Result<()> {
     match kind {
-        Kind::Unbounded => put_byte(UNBOUNDED),
-        Kind::Included => put_key(INCLUDED, key),
-        Kind::Excluded => put_key(EXCLUDED, key),
+        Kind::Unbounded => put_byte(out, UNBOUNDED),
+        Kind::Included => put_key(out, INCLUDED, key),
+        Kind::Excluded => put_key(out, EXCLUDED, key),
     }
 }
 
-pub fn put_key(tag: u8, key: &[u8]) {
-    put_byte(tag);
-    put(b":");
-    put_bytes(key);
+pub fn put_key(out: &Stdout, tag: u8, key: &[u8]) -> io::Result<()> {
+    put_byte(out, tag)?;
+    put(out, b":")?;
+    put_bytes(out, key)
 }
 
-fn put_bytes(bytes: &[u8]) {
+fn put_bytes(out: &Stdout, bytes: &[u8]) -> io::Result<()> {
     let mut i = 0;
     while i < bytes.len() {
-        put_byte(bytes[i]);
+        put_byte(out, bytes[i])?;
         i += 1;
     }
+    Ok(())
 }
 
-fn put_byte(byte: u8) {
-    io::print_hex(STDOUT_FILENO, byte as u64, 2);
+fn put_byte(out: &Stdout, byte: u8) -> io::Result<()> {
+    print!(out; "{byte:02x}")
 }
 
 // The line that says where the queries do not read.
-pub fn put_bad(at: usize) {
-    put(b"bad ");
-    io::print_decimal(STDOUT_FILENO, at as u64);
-    put(b"\n");
+pub fn put_bad(out: &Stdout, at: usize) -> io::Result<()> {
+    println!(out; "bad {at}")
 }

@@ -1,6 +1,5 @@
 -- One byte is put at the place, and the next place is behind it.
 use Rattle.script.proofs.LineLaws.{put_one}
-use borrow.Author.Rules.{rules}
 use Rattle.script.proofs.lines.put_byte.Goals as goal
 
 pub returns : goal.returns

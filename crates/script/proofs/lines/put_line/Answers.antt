@@ -1,7 +1,6 @@
 -- Status, space, value and the line's end are put one behind the other.
 use native.Mathlib.Omega.{arith}
 use Rattle.script.proofs.LineLaws.{byte_short, word_short, put_answer}
-use borrow.Author.Rules.{rules}
 use Rattle.script.proofs.lines.put_line.Goals as goal
 
 pub put_decimal-space-requires : goal.put_decimal-space-requires

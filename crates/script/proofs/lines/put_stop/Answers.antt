@@ -1,7 +1,6 @@
 -- The word, a space, the offset and the line's end are put one behind the other.
 use native.Mathlib.Omega.{arith}
 use Rattle.script.proofs.LineLaws.{word_short, put_end, put_word}
-use borrow.Author.Rules.{rules}
 use Rattle.script.proofs.lines.put_stop.Goals as goal
 
 pub put_decimal-to-requires : goal.put_decimal-to-requires

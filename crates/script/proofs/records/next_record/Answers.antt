@@ -1,7 +1,6 @@
 -- The bytes decide in order: none, the tag, the head, the length, the payload; else the record is whole.
 use native.Mathlib.Omega.{arith}
 use Rattle.script.proofs.RecordLaws.{none_left, tag_low, tag_high, head_cut, too_long_lem, payload_cut, record_here}
-use borrow.Author.Rules.{rules}
 use Rattle.script.proofs.records.next_record.Goals as goal
 
 pub returns-then-bytes-at : goal.returns-then-bytes-at

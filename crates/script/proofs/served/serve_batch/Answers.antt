@@ -1,6 +1,5 @@
 -- A payload that begins with a sequence is that batch with the bytes behind it as its list, and a shorter one is no call.
 use Rattle.script.proofs.CallLaws.{served_as, batch_is, batch_none}
-use borrow.Author.Rules.{rules}
 use Rattle.script.proofs.served.serve_batch.Goals as goal
 
 pub returns-then-payload-lt-NUMBER : goal.returns-then-payload-lt-NUMBER

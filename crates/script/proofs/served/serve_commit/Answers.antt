@@ -1,6 +1,5 @@
 -- A payload of an id and a sequence is that commit, and any other is no call.
 use Rattle.script.proofs.CallLaws.{served_as, commit_is, commit_none}
-use borrow.Author.Rules.{rules}
 use Rattle.script.proofs.served.serve_commit.Goals as goal
 
 pub returns-then-payload : goal.returns-then-payload

@@ -2,7 +2,6 @@
 use Rattle.machine.specs.declared.Which.TheVariants.{Writes, Reads}
 use Rattle.machine.specs.Calls.{track_keys}
 use Rattle.script.proofs.CallLaws.{served_as, split_as}
-use borrow.Author.Rules.{rules}
 use Rattle.script.proofs.served.serve_keys.Goals as goal
 
 pub returns-in-Writes : goal.returns-in-Writes

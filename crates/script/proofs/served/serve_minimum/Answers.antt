@@ -1,7 +1,6 @@
 -- An empty payload is the call, and any other is none.
 use native.Mathlib.Omega.{arith}
 use Rattle.script.proofs.CallLaws.{served_as, minimum_is, minimum_none}
-use borrow.Author.Rules.{rules}
 use Rattle.script.proofs.served.serve_minimum.Goals as goal
 
 pub returns-then-payload-gt0 : goal.returns-then-payload-gt0

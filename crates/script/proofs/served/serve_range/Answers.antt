@@ -1,7 +1,6 @@
 -- The payload is cut where its id ends, and what follows it are the bounds.
 use Rattle.machine.specs.Calls.{track_range}
 use Rattle.script.proofs.CallLaws.{served_as, split_as}
-use borrow.Author.Rules.{rules}
 use Rattle.script.proofs.served.serve_range.Goals as goal
 
 pub returns : goal.returns

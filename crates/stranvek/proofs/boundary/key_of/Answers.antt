@@ -1,5 +1,4 @@
 -- The number is that of the made bound's kind, the bytes are its own.
-use borrow.Author.Rules.{rules}
 use Rattle.stranvek.proofs.boundary.key_of.Goals as goal
 
 pub returns : goal.returns

@@ -1,5 +1,4 @@
 -- Status and keys are those of the parts.
-use borrow.Author.Rules.{rules}
 use Rattle.stranvek.proofs.boundary.keys_of.Goals as goal
 
 pub returns : goal.returns

@@ -1,5 +1,4 @@
 -- Each bound has the number of the kind on its side, and that side's number.
-use borrow.Author.Rules.{rules}
 use Rattle.stranvek.proofs.boundary.pair_of.Goals as goal
 
 pub returns-in-Of : goal.returns-in-Of

@@ -1,5 +1,4 @@
 -- The pair of the two kinds that the numbers name.
-use borrow.Author.Rules.{rules}
 use mathlib.Core.Path.{◌∙◌}
 use Rattle.stranvek.proofs.boundary.range_at.Goals as goal
 

@@ -1,5 +1,4 @@
 -- The answer for the two pairs that the numbers name.
-use borrow.Author.Rules.{rules}
 use Rattle.bounds.specs.Ranges.{range_of, touches}
 use mathlib.Core.Path.{ap, ◌∙◌}
 use Rattle.stranvek.specs.Answers.{told}

@@ -1,5 +1,4 @@
 -- The answer of `compare`, whose sign fits a byte.
-use borrow.Author.Rules.{rules}
 use Rattle.keys.specs.Order.{order}
 use Rattle.stranvek.proofs.AnswerLaws.{compare_answer}
 use Rattle.stranvek.proofs.bytes_range.stranvek_compare.Goals as goal

@@ -1,5 +1,4 @@
 -- The order of the two pairs that the numbers name, whose sign fits a byte.
-use borrow.Author.Rules.{rules}
 use Rattle.keys.specs.Order.{sign}
 use Rattle.bounds.specs.Ranges.{range_of, range_order}
 use Rattle.stranvek.specs.Boundary.{range_at}

@@ -1,5 +1,4 @@
 -- The order of the two starts that the numbers name, whose sign fits a byte.
-use borrow.Author.Rules.{rules}
 use Rattle.keys.specs.Order.{sign}
 use Rattle.kinds.specs.Bounds.{bound, start_order}
 use Rattle.stranvek.specs.Boundary.{bound_at}

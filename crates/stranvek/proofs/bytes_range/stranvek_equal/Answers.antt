@@ -1,5 +1,4 @@
 -- The answer of `equal`, with status 0.
-use borrow.Author.Rules.{rules}
 use mathlib.Core.Path.{ap}
 use Rattle.stranvek.specs.Answers.{told}
 use Rattle.stranvek.proofs.bytes_range.stranvek_equal.Goals as goal

@@ -1,5 +1,4 @@
 -- The made range, as the struct that the host reads.
-use borrow.Author.Rules.{rules}
 use mathlib.Core.Path.{ap, ◌∙◌}
 use Rattle.stranvek.specs.Boundary.{made_keys}
 use Rattle.stranvek.proofs.bytes_range.stranvek_from_prefix.Goals as goal

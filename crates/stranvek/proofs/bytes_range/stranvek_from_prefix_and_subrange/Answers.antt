@@ -1,5 +1,4 @@
 -- The made range for the subrange that the numbers name, as the struct that the host reads.
-use borrow.Author.Rules.{rules}
 use mathlib.Core.Path.{ap, ◌∙◌}
 use Rattle.bounds.specs.Ranges.{range_of}
 use Rattle.ranges.specs.Prefixes.{subrange_of}

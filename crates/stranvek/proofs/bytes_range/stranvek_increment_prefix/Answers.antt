@@ -1,5 +1,4 @@
 -- The made key, as the struct that the host reads.
-use borrow.Author.Rules.{rules}
 use mathlib.Core.Path.{ap, ◌∙◌}
 use Rattle.ranges.specs.Made.{status}
 use Rattle.stranvek.specs.Boundary.{key}

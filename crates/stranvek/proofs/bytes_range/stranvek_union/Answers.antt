@@ -1,5 +1,4 @@
 -- The answer for the two pairs that the numbers name, as sides and numbers of kinds.
-use borrow.Author.Rules.{rules}
 use mathlib.Core.Path.{◌∙◌}
 use Rattle.bounds.specs.Ranges.{union_of}
 use Rattle.stranvek.proofs.AnswerLaws.{pairs}
