@@ -11,6 +11,10 @@ class Fault(Exception):
     """Something that stands in an edit, a log or the tree, and must not."""
 
 
+class Misfit(Fault):
+    """A proof that does not fit the code with a wrong answer in it, so that nothing is shown."""
+
+
 class Wrong:
     """One wrong answer: what it is, where it is wrong, and the replacements that make it."""
 

@@ -1,7 +1,7 @@
 """Why the checker refused a wrong answer."""
 import re
 
-from .edits import Fault
+from .edits import Fault, Misfit
 
 ERROR = re.compile(r"^[^ ]*?/proofs/(?P<file>[^ ]*)\.antt:(?P<line>\d+):\d+: error: `(?P<name>[^`]*)`: (?P<said>.*)")
 NOTE = re.compile(r"^note: (?P<file>src/[^ ]*):(?P<line>\d+):\d+: it is not proved that .*?\(`(?P<goal>[^`]*)`\)")
@@ -23,7 +23,7 @@ def reason(answer, log):
             return "what the code leaves to prove: " + ", ".join(re.findall(r"`([^`]*)`", left[1]))
         own = [error for error in errors if proof_is_of(error["file"], path)]
     if misfit := next((error for error in own if MISFIT.search(error["said"])), None):
-        raise Fault(f"{answer}: its proof does not fit the code any more ({misfit['file']}:{misfit['line']}: {misfit['name']})")
+        raise Misfit(f"{answer}: its proof does not fit the code any more ({misfit['file']}:{misfit['line']}: {misfit['name']})")
     own = [error for error in own if "was not admitted" not in error["said"]]
     if own:
         return f"{own[0]['file']}:{own[0]['line']}: {own[0]['name']}"
