@@ -6,16 +6,18 @@ import unittest
 
 sys.dont_write_bytecode = True
 sys.path.insert(0, str(pathlib.Path(__file__).resolve().parent.parent))
-from wrong_answers.edits import Fault, Wrong, above, read_edit  # noqa: E402
+from wrong_answers.edits import Fault, Wrong, above, has_answers, reached, read_edit  # noqa: E402
 from wrong_answers.reasons import reason  # noqa: E402
-from wrong_answers.runs import changed, runs_of  # noqa: E402
+from wrong_answers.runs import changed, runs_of, waits  # noqa: E402
 
-OWN = "/x/proofs/compare/Proof.antt:53:90: error: `returns-2`: `omega`: the goal does not follow from what it read."
-LEFT_OUT = "/x/proofs/compare/Proof.antt:113:5: error: `compare-spec`: `returns-2` was not admitted (it has holes or undetermined implicits, or was rejected), so this cannot be checked"
-MISFIT = "/x/proofs/compare/Proof.antt:20:5: error: `add-i`: the module has no `Need-add-i` that can be named from here"
-SHIFTED = "/x/proofs/compare/Proof.antt:64:9: error: `returns-5`: record `After-struct-known` has no field `if1`"
-LAW = "/x/proofs/OrderLaws.antt:37:25: error: `order-swap`: computed as far as they go, the two types differ"
-LAW_LEFT_OUT = "/x/proofs/OrderLaws.antt:70:26: error: `order-chain`: `order-trans` was not admitted (it has holes or undetermined implicits, or was rejected), so this cannot be checked"
+OWN = "./proofs/compare/Answers.antt:15:96: error: `returns-then-x-y`: `omega`: the goal does not follow from what it read."
+LEFT_OUT = "./proofs/compare/Answers.antt:23:5: error: `returns-then-i-b`: `first_ends` was not admitted (it has holes or undetermined implicits, or was rejected), so this cannot be checked"
+WAITING = "./proofs/compare/Answers.antt:26:5: error: 1 declaration that depends on `first_ends`, which was not admitted, was not checked: returns-then-i-b"
+MISFIT = "./proofs/compare/Answers.antt:11:24: error: `returns-then-b-i`: `goal.returns-then-b-i`: module `Rattle.keys.proofs.compare.Goals` has no `returns-then-b-i` that can be named from here (did you mean `returns-then-i-b`?)"
+SHIFTED = "./proofs/compare/Answers.antt:16:9: error: `returns`: record `Else-y-x` has no field `if-b-i`"
+OPEN = "note: src/lib.rt:17:13: it is not proved that what the function ensures holds when it returns (`returns-then-b-a`); the facts known there allow values at which this goal is false"
+LAW = "./proofs/OrderLaws.antt:37:25: error: `order_swap`: computed as far as they go, the two types differ"
+LAW_LEFT_OUT = "./proofs/OrderLaws.antt:70:26: error: `order_chain`: `order_trans` was not admitted (it has holes or undetermined implicits, or was rejected), so this cannot be checked"
 
 
 def answer(function=None, theorem=None, crate="keys", changes=()):
@@ -37,39 +39,49 @@ class Reasons(unittest.TestCase):
             reason(wrong, log(*lines))
 
     def test_an_error_in_its_own_proof(self):
-        self.refused("compare/Proof:53: returns-2", answer("compare"), OWN, LEFT_OUT, "fn keys::compare: not proved")
+        self.refused("compare/Answers:15: returns-then-x-y", answer("compare"), OWN, LEFT_OUT, "fn keys::compare: not proved")
+        invariant = OWN.replace("Answers", "Invariants")
+        self.refused("compare/Invariants:15: returns-then-x-y", answer("compare"), invariant, "fn keys::compare: not proved")
 
     def test_a_caller_is_not_refused_by_its_callee(self):
         for said in ("not proved; it calls `keys::compare`, which is not proved", "not proved; it calls `a` and `b`, which are not proved"):
             self.faulty("no.* reason of its own|not refused", answer("equal"), OWN, "fn keys::compare: not proved", f"fn keys::equal: {said}")
 
     def test_what_only_misses_another_is_no_reason(self):
-        self.faulty("reason of its own", answer("compare"), LEFT_OUT, "fn keys::compare: not proved")
+        self.faulty("reason of its own", answer("compare"), LEFT_OUT, WAITING, "fn keys::compare: not proved")
 
     def test_a_proved_function_is_not_refused(self):
         self.faulty("reason of its own", answer("equal"), OWN, "fn keys::compare: not proved", "fn keys::equal: proved")
 
     def test_a_proof_that_does_not_fit_the_code_is_a_fault(self):
         for misfit in (MISFIT, SHIFTED):
-            self.faulty("does not fit", answer("compare"), misfit, OWN, "fn keys::compare: not proved")
+            self.faulty("does not fit", answer("compare"), misfit, OWN, OPEN, "fn keys::compare: not proved")
+
+    def test_a_goal_that_no_answer_and_no_search_proves(self):
+        left = "what the code leaves to prove: returns-then-b-a"
+        self.refused(left, answer("compare"), "fn keys::equal: proved", OPEN, "fn keys::compare: not proved")
+        self.faulty("reason of its own", answer("compare"), OPEN, "fn keys::equal: not proved", "fn keys::compare: not proved")
 
     def test_a_function_without_a_proof_file(self):
-        said = "no proof: expected `size-spec` in /x/proofs/size/Proof.antt; `search` does not close `returns`"
-        self.refused("what the code leaves to prove: returns", answer("size"), f"fn keys::size: {said}")
+        said = "no proof: expected answers in ./proofs/size/Answers.antt; `search` did not prove `returns-then-a`, `returns`"
+        calls = "; it calls `keys::compare`, which is not proved"
+        for line in (said, said + calls):
+            self.refused("what the code leaves to prove: returns-then-a, returns", answer("size"), f"fn keys::size: {line}")
+        self.faulty("reason of its own", answer("size"), "fn keys::size: no proof: it calls `keys::compare`, which is not proved")
 
     def test_methods_modules_and_cycles_of_calls(self):
-        method = "/x/proofs/kind/Kind/tie/Proof.antt:9:1: error: `returns`: wrong"
-        cycle = "/x/proofs/bytes_range/+increment_len/Proof.antt:9:1: error: `returns`: wrong"
-        self.refused("kind/Kind/tie/Proof:9: returns", answer("Kind::tie"), method, "fn keys::kind::Kind::tie: not proved")
-        self.refused("bytes_range/+increment_len/Proof:9: returns", answer("increment_len"), cycle, "fn keys::bytes_range::increment_len: not proved")
+        method = "./proofs/kind/Kind/tie/Answers.antt:9:1: error: `returns`: wrong"
+        cycle = "./proofs/bytes_range/+increment_len/Answers.antt:9:1: error: `returns`: wrong"
+        self.refused("kind/Kind/tie/Answers:9: returns", answer("Kind::tie"), method, "fn keys::kind::Kind::tie: not proved")
+        self.refused("bytes_range/+increment_len/Answers:9: returns", answer("increment_len"), cycle, "fn keys::bytes_range::increment_len: not proved")
 
     def test_a_function_that_the_log_does_not_name(self):
         self.faulty("names 0 functions", answer("tie"), OWN, "fn keys::compare: not proved")
 
     def test_a_definition_is_refused_by_the_theorem_that_is_named(self):
-        self.refused("OrderLaws:37: order-swap", answer(theorem="order-swap"), LAW, LAW_LEFT_OUT)
-        self.faulty("reason of its own", answer(theorem="order-chain"), LAW, LAW_LEFT_OUT)
-        self.faulty("reason of its own", answer(theorem="order-refl"), LAW, LAW_LEFT_OUT)
+        self.refused("OrderLaws:37: order_swap", answer(theorem="order_swap"), LAW, LAW_LEFT_OUT)
+        self.faulty("reason of its own", answer(theorem="order_chain"), LAW, LAW_LEFT_OUT)
+        self.faulty("reason of its own", answer(theorem="order_refl"), LAW, LAW_LEFT_OUT)
 
 
 class Edits(unittest.TestCase):
@@ -110,10 +122,19 @@ class Runs(unittest.TestCase):
         equal = ("src/lib.rt", "    compare(a, b) == 0", "    compare(a, a) == 0")
         order = ("specs/Order.antt", "order [] (y ∷ ys) = lt", "order [] (y ∷ ys) = gt")
         first, second = answer("compare", changes=[compare]), answer("compare", changes=[other])
-        third, rule = answer("equal", changes=[equal]), answer(theorem="order-swap", changes=[order])
+        third, rule = answer("equal", changes=[equal]), answer(theorem="order_swap", changes=[order])
         elsewhere = answer("starts_with", changes=[equal])
         self.assertEqual(runs_of([first, second, third, rule, elsewhere], False), [[first, third], [second], [rule], [elsewhere]])
         self.assertEqual(len(runs_of([first, second, third], True)), 3)
+
+    def test_a_caller_that_the_search_proves_is_not_tried_beside_what_it_calls(self):
+        calls = {"Kind::compare_start": {"Kind::compare_start", "Kind::tie"}, "Kind::tie": {"Kind::tie", "Kind::admits_to"}}
+        caller, callee, below = (answer(name, crate="kinds") for name in ("Kind::compare_start", "Kind::tie", "Kind::admits_to"))
+        self.assertEqual([has_answers(it) for it in (caller, callee, below)], [False, True, True])
+        self.assertTrue(waits(caller, callee, calls))
+        self.assertFalse(waits(callee, caller, calls))
+        self.assertFalse(waits(callee, below, calls))
+        self.assertIn("Kind::tie", reached("kinds")["Kind::compare_start"])
 
     def test_what_stands_on_a_crate(self):
         listed = {"a": [], "b": ["a"], "c": ["b"], "d": []}

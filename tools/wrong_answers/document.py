@@ -9,8 +9,8 @@ Made by `tools/wrong --docs` from the labels in `crates/*/must-fail` and `crates
 Each line is a wrong program, or a wrong definition, that the gate tries: the proof of the function that it is in, or the theorem that is
 named, must refuse it for itself. The words beside it are the rule that it breaks, where its label does not say it.
 
-`rt ci` tries the edits in `must-fail` as they are. `tools/wrong NAME` tries all of a crate, many in one run, and leaves the prover's words
-under `target/wrong/NAME`.
+`rt ci` tries the edits in `must-fail` as they are. `tools/wrong` tries those and the others, many in one run, holds each to a reason of its own, and leaves the
+prover's words of a crate under `target/wrong/NAME`.
 """
 
 

@@ -1,4 +1,5 @@
 """The edits that stand beside the crates, and the crates."""
+import collections
 import pathlib
 import re
 
@@ -8,6 +9,10 @@ FOLDERS = ("must-fail", "wrong")
 
 class Fault(Exception):
     """Something that stands in an edit, a log or the tree, and must not."""
+
+
+class Misfit(Fault):
+    """A proof that does not fit the code with a wrong answer in it, so that nothing is shown."""
 
 
 class Wrong:
@@ -83,8 +88,8 @@ def read_edit(crate, path):
     return [answer.check() for answer in answers]
 
 
-def wrong_answers(crate, folders=FOLDERS):
-    return [answer for folder in folders for path in edits(crate, folder) for answer in read_edit(crate, path)]
+def wrong_answers(crate):
+    return [answer for folder in FOLDERS for path in edits(crate, folder) for answer in read_edit(crate, path)]
 
 
 def crates():
@@ -93,7 +98,8 @@ def crates():
     for line in (ROOT / "crates.txt").read_text(encoding="utf8").splitlines():
         name, colon, rest = line.split("#")[0].partition(":")
         if colon:
-            listed[name.strip()] = rest.split()
+            # Behind a static library's name stands that word.
+            listed[name.split()[0]] = rest.split()
     return listed
 
 
@@ -142,3 +148,29 @@ def place_of(text, old, function=None):
 def functions(crate):
     sources = sorted((ROOT / "crates" / crate / "src").rglob("*.rt"))
     return [(name, line) for source in sources for _, name, line in heads(source.read_text(encoding="utf8"))]
+
+
+def reached(crate):
+    """Of each function of the crate, itself and those that its text names, and so on: at least what it calls."""
+    bodies = collections.defaultdict(set)
+    for source in sorted((ROOT / "crates" / crate / "src").rglob("*.rt")):
+        text = source.read_text(encoding="utf8")
+        starts = [(at, name) for at, name, _ in heads(text)] + [(len(text), "")]
+        for (at, name), (end, _) in zip(starts, starts[1:]):
+            bodies[name].update(re.findall(r"\w+", text[at:end]))
+    found = {name: {name} for name in bodies}
+    grown = True
+    while grown:
+        grown = False
+        for name in bodies:
+            more = {other for other in bodies if any(other.rsplit("::", 1)[-1] in bodies[it] for it in found[name])} - found[name]
+            found[name] |= more
+            grown = grown or bool(more)
+    return found
+
+
+def has_answers(answer):
+    """Whether a file answers goals of the function that the answer is in."""
+    *folders, name = answer.function.split("::")
+    top = ROOT / "crates" / answer.crate / "proofs"
+    return any(path.parent.parts[-len(folders) - 1:-1] == tuple(folders) for part in (name, f"+{name}") for path in top.rglob(f"{part}/Answers.antt"))

@@ -1,16 +1,14 @@
 """Many wrong answers in one run of the kit's checker."""
 import collections
-import os
-import pathlib
 import re
 import shutil
-import subprocess
-import tempfile
-import typing
 
-from .edits import Fault, ROOT, place_of
+import kit
+
+from .edits import Fault, ROOT, has_answers, place_of, reached
 
 TARGET = ROOT / "target"
+FLAGS = ["--jobs", "1"]
 
 
 def changed(text, where, changes):
@@ -29,17 +27,22 @@ def changed(text, where, changes):
     return text
 
 
-def apart(run, answer):
-    """Whether the answer can join a run: no other is in its function, and none changes the text that it changes."""
+def apart(run, answer, calls):
+    """Whether the answer can join a run: no other is in its function or keeps the checker from it, and none changes the text that it changes."""
     if run[0].is_wide() or answer.is_wide():
         return False
-    if any(other.function == answer.function for other in run):
+    if any(other.function == answer.function or waits(other, answer, calls) or waits(answer, other, calls) for other in run):
         return False
     try:
         edited([*run, answer])
         return True
     except Fault:
         return False
+
+
+def waits(caller, callee, calls):
+    """Whether the one is in a function that calls the other's, and that the search proves: it leaves a caller's goals while a callee is not proved."""
+    return callee.function in calls[caller.function] and not has_answers(caller)
 
 
 def edited(run):
@@ -53,10 +56,10 @@ def edited(run):
 
 
 def runs_of(answers, alone):
-    runs = []
+    runs, calls = [], reached(answers[0].crate) if answers else {}
     for answer in answers:
         edited([answer])
-        place = None if alone else next((run for run in runs if apart(run, answer)), None)
+        place = None if alone else next((run for run in runs if apart(run, answer, calls)), None)
         if place is None:
             runs.append([answer])
         else:
@@ -64,68 +67,38 @@ def runs_of(answers, alone):
     return runs
 
 
-class Said(typing.NamedTuple):
-    """What the checker ended with, what it said, and the processor time that it took."""
-    status: int
-    words: str
-    seconds: float
-
-
 class Prover:
-    """The kit's checker, called as `rt dev` calls it, over a copy of a crate's proved modules."""
+    """The kit's checker, called as `rt must-fail` calls it: over a seed, which is what a check of the crate as it stands proved."""
 
-    def __init__(self, listed):
-        home = os.environ.get("RATTLE_HOME") or pathlib.Path(shutil.which("rt")).resolve().parent.parent
-        self.home, self.listed = pathlib.Path(home), listed
-        self.own = self.home / "on" / os.uname().machine
-        self.times = []
-        self.modules = self.modules_folder()
+    def __init__(self, after_ci):
+        self.after_ci = after_ci
 
-    def check(self, crate, source, incremental):
-        words = [self.own / "bin" / "rattle", "check", "--crate-name", crate, source, "--extern", f"std={self.own}/rlib/std.rlib"]
-        for name in self.listed.get(crate, []):
-            rlib = (TARGET if name in self.listed else self.own) / "rlib" / f"{name}.rlib"
-            words += ["--extern", f"{name}={rlib}"]
-        words += ["-L", f"dependency={TARGET}/rlib", "-L", f"dependency={self.own}/rlib"]
-        words += ["--antt-project", self.home / "logic" / "antt-project.json", "--logic-built", self.own / "logic-built"]
-        words += ["--incremental", incremental]
-        with subprocess.Popen(words, stdout=subprocess.PIPE, stderr=subprocess.STDOUT, encoding="utf8", errors="replace") as process:
-            said = process.stdout.read()
-            _, status, used = os.wait4(process.pid, 0)
-            process.returncode = os.waitstatus_to_exitcode(status)
-        seconds = used.ru_utime + used.ru_stime
-        self.times.append(seconds)
-        return Said(process.returncode, said, seconds)
+    def crate(self, name):
+        """The kit's view of a crate over whose libraries a check can run: those that rt ci has just left, or else those that rt builds."""
+        crate = kit.crates()[name]
+        if not (self.after_ci and kit.is_from_ci(crate)):
+            kit.build_below(crate)
+        return crate
 
-    def modules_folder(self):
-        """The name by which this kit knows its own modules in an incremental folder: that of a crate of one empty function."""
-        with tempfile.TemporaryDirectory() as scratch:
-            folder = pathlib.Path(scratch)
-            (folder / "src").mkdir()
-            (folder / "src" / "lib.rt").write_text("pub fn nothing() {}\n")
-            said = self.check("nothing", folder / "src" / "lib.rt", folder / "modules")
-            names = [path.name for path in (folder / "modules").iterdir()] if (folder / "modules").is_dir() else []
-            if said.status or len(names) != 1:
-                raise Fault(f"the kit's checker does not do what this tool expects of it:\n{said.words}")
-            return names[0]
+    def seed(self, crate):
+        """A new folder whose folder `seed` has what a check of the crate as it stands proved, begun with what rt check kept, if it kept something."""
+        room = kit.rt().seeded(crate, FLAGS, kit.rt().work_for(crate))
+        if room is None:
+            raise Fault(f"{crate.name}: it is not proved as it stands")
+        return room
 
-    def log_of(self, run, name):
-        """What the checker says of the crate with all wrong answers of the run in it."""
-        crate = run[0].crate
-        top, work = ROOT / "crates" / crate, TARGET / "wrong" / crate / name
-        shutil.rmtree(work, ignore_errors=True)
-        for part in ("src", "specs", "proofs"):
-            if (top / part).is_dir():
-                shutil.copytree(top / part, work / part)
-        for file, text in edited(run).items():
-            (work / file).write_text(text, encoding="utf8")
-        proved = TARGET / "rlib" / f"{crate}.rlib" / "toolchain" / "checked"
-        if proved.is_dir():
-            shutil.copytree(proved, work / "modules" / self.modules)
-        source = next(file for file in (work / "src" / "main.rt", work / "src" / "lib.rt") if file.exists())
-        said = self.check(crate, source, work / "modules")
-        (TARGET / "wrong" / crate / f"{name}.log").write_text(f"{said.words}processor time: {said.seconds:.1f} s\n", encoding="utf8")
-        shutil.rmtree(work)
-        if said.status != 1 or not re.search(r"^logic=not-proved", said.words, re.M):
-            raise Fault(f"{crate}: run {name} ({'; '.join(a.label for a in run)}): not refused by a proof (exit status {said.status})")
-        return said.words
+    def log_of(self, crate, run, name, room=None):
+        """What the checker says of the crate with all wrong answers of the run in it, over the seed if there is one."""
+        kept = f"{room}/{name}" if room else None
+        try:
+            if kept:
+                kit.rt().linked(f"{room}/seed", kept)
+            said = kit.rt().checked(crate, edited(run), FLAGS, kept)
+        finally:
+            shutil.rmtree(kept or "", ignore_errors=True)
+        log = TARGET / "wrong" / crate.name / f"{name}.log"
+        log.parent.mkdir(parents=True, exist_ok=True)
+        log.write_text(said.stdout, encoding="utf8")
+        if said.returncode != 1 or not re.search(r"^logic=not-proved", said.stdout, re.M):
+            raise Fault(f"{crate.name}: run {name} ({'; '.join(a.label for a in run)}): not refused by a proof (exit status {said.returncode})")
+        return said.stdout

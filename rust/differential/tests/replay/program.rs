@@ -22,7 +22,7 @@ extern "C" {
 
 fn start(input: Stdio, patience: c_uint) -> Child {
     let program = Path::new(env!("CARGO_MANIFEST_DIR")).join("../../target/bin/replay");
-    assert!(program.exists(), "target/bin/replay is not there: `rt check replay` makes it");
+    assert!(program.exists(), "target/bin/replay is not there: `tools/product replay` makes it");
     let words = emulated::started(program);
     let mut command = Command::new(&words[0]);
     command.args(&words[1..]).stdin(input).stdout(Stdio::piped());

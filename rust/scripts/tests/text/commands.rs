@@ -13,7 +13,7 @@ const P_LINES: &str = include_str!("../../../../crates/replay/stdout");
 /// The words that show what the replay program writes, which must have been made.
 fn show_replay() -> Vec<OsString> {
     let program = Path::new(env!("CARGO_MANIFEST_DIR")).join("../../target/bin/replay");
-    assert!(program.exists(), "target/bin/replay is not there: `rt check replay` makes it");
+    assert!(program.exists(), "target/bin/replay is not there: `tools/product replay` makes it");
     [vec![OsString::from("show")], started(program)].concat()
 }
 
