@@ -6,7 +6,7 @@ from .edits import Fault, Misfit
 ERROR = re.compile(r"^[^ ]*?/proofs/(?P<file>[^ ]*)\.antt:(?P<line>\d+):\d+: error: `(?P<name>[^`]*)`: (?P<said>.*)")
 NOTE = re.compile(r"^note: (?P<file>src/[^ ]*):(?P<line>\d+):\d+: it is not proved that .*?\(`(?P<goal>[^`]*)`\)")
 # A goal has its name from the code: where an edit moves that name, or takes a name away, the proof would not fit a right program either.
-MISFIT = re.compile(r"has no field|has no `|is not in scope|is no name|no module .* that can be named")
+MISFIT = re.compile(r"has no field|^record `[^`]*` \(nearest: |has no `|is not in scope|is no name|no module .* that can be named")
 PROOFS = ("Answers", "Invariants", "Proof")
 
 
