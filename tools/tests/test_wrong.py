@@ -107,6 +107,13 @@ class Edits(unittest.TestCase):
 
 
 class Runs(unittest.TestCase):
+    def test_a_change_of_a_proof_only_follows_names(self):
+        for old, new in (("returns-then-b-i c =", "returns-then-b-a c ="), ("c.if-b-i.false", "c.if-b-a.false"), ("c.track_write_keys.ensures", "c.track_read_keys.ensures")):
+            answer("compare", changes=[("src/lib.rt", "i", "j"), ("proofs/compare/Answers.antt", old, new)]).check()
+        for old, new in (("omega arith", "search rules"), ("c.if-b-i.false", "c.if-b-i.true"), ("first_ends", "second_ends")):
+            with self.assertRaisesRegex(Fault, "in src/ alone"):
+                answer("compare", changes=[("proofs/compare/Answers.antt", old, new)]).check()
+
     def test_an_old_text_stands_once_in_the_text_or_in_its_function(self):
         self.assertEqual(changed("a b c", "x", [("a", "A", None), ("c", "", None)]), "A b ")
         for text, old in (("a b c", "d"), ("a b c", ""), ("a b a", "a")):
