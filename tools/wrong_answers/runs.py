@@ -55,8 +55,8 @@ def edited(run):
     return {file: changed((top / file).read_text(encoding="utf8"), f"{run[0].crate}/{file}", of) for file, of in by_file.items()}
 
 
-def runs_of(answers, alone):
-    runs, calls = [], reached(answers[0].crate) if answers else {}
+def runs_of(answers, alone, calls=None):
+    runs, calls = [], reached(answers[0].crate) if calls is None and answers else calls
     for answer in answers:
         edited([answer])
         place = None if alone else next((run for run in runs if apart(run, answer, calls)), None)
