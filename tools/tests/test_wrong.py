@@ -14,6 +14,7 @@ OWN = "./proofs/compare/Answers.antt:15:96: error: `returns-then-x-y`: `omega`: 
 LEFT_OUT = "./proofs/compare/Answers.antt:23:5: error: `returns-then-i-b`: `first_ends` was not admitted (it has holes or undetermined implicits, or was rejected), so this cannot be checked"
 WAITING = "./proofs/compare/Answers.antt:26:5: error: 1 declaration that depends on `first_ends`, which was not admitted, was not checked: returns-then-i-b"
 MISFIT = "./proofs/compare/Answers.antt:11:24: error: `returns-then-b-i`: `goal.returns-then-b-i`: module `Rattle.keys.proofs.compare.Goals` has no `returns-then-b-i` that can be named from here (did you mean `returns-then-i-b`?)"
+USE = "./proofs/compare/Answers.antt:6:51: error: module `Rattle.keys.proofs.compare.Goals` has no `then-b-i-via-then-b-i` that can be named from here"
 SHIFTED = "./proofs/compare/Answers.antt:16:9: error: `returns`: record `Else-y-x` has no field `if-b-i`"
 SHORT = "./proofs/compare/Answers.antt:21:103: error: `returns`: record `Else-y-x` (nearest: .if-b-a, .if-x-y)"
 OPEN = "note: src/lib.rt:17:13: it is not proved that what the function ensures holds when it returns (`returns-then-b-a`); the facts known there allow values at which this goal is false"
@@ -55,7 +56,7 @@ class Reasons(unittest.TestCase):
         self.faulty("reason of its own", answer("equal"), OWN, "fn keys::compare: not proved", "fn keys::equal: proved")
 
     def test_a_proof_that_does_not_fit_the_code_is_a_fault(self):
-        for misfit in (MISFIT, SHIFTED, SHORT):
+        for misfit in (MISFIT, SHIFTED, SHORT, USE):
             self.faulty("does not fit", answer("compare"), misfit, OWN, OPEN, "fn keys::compare: not proved")
 
     def test_a_goal_that_no_answer_and_no_search_proves(self):

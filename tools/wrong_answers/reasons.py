@@ -3,7 +3,7 @@ import re
 
 from .edits import Fault, Misfit
 
-ERROR = re.compile(r"^[^ ]*?/proofs/(?P<file>[^ ]*)\.antt:(?P<line>\d+):\d+: error: `(?P<name>[^`]*)`: (?P<said>.*)")
+ERROR = re.compile(r"^[^ ]*?/proofs/(?P<file>[^ ]*)\.antt:(?P<line>\d+):\d+: error: (?:`(?P<name>[^`]*)`: )?(?P<said>.*)")
 NOTE = re.compile(r"^note: (?P<file>src/[^ ]*):(?P<line>\d+):\d+: it is not proved that .*?\(`(?P<goal>[^`]*)`\)")
 # A goal has its name from the code: where an edit moves that name, or takes a name away, the proof would not fit a right program either.
 MISFIT = re.compile(r"has no field|^record `[^`]*` \(nearest: |has no `|is not in scope|is no name|no module .* that can be named")
@@ -23,8 +23,9 @@ def reason(answer, log):
             return "what the code leaves to prove: " + ", ".join(re.findall(r"`([^`]*)`", left[1]))
         own = [error for error in errors if proof_is_of(error["file"], path)]
     if misfit := next((error for error in own if MISFIT.search(error["said"])), None):
-        raise Misfit(f"{answer}: its proof does not fit the code any more ({misfit['file']}:{misfit['line']}: {misfit['name']})")
-    own = [error for error in own if "was not admitted" not in error["said"]]
+        raise Misfit(f"{answer}: its proof does not fit the code any more ({misfit['file']}:{misfit['line']}: {misfit['name'] or 'a use line'})")
+    # What is said of no one declaration, as of a `use` line or of how many were left out, is no refusal.
+    own = [error for error in own if error["name"] and "was not admitted" not in error["said"]]
     if own:
         return f"{own[0]['file']}:{own[0]['line']}: {own[0]['name']}"
     if notes:
