@@ -108,12 +108,32 @@ class Edits(unittest.TestCase):
 
 
 class Runs(unittest.TestCase):
-    def test_a_change_of_a_proof_only_follows_names(self):
-        for old, new in (("returns-then-b-i c =", "returns-then-b-a c ="), ("c.if-b-i.false", "c.if-b-a.false"), ("c.track_write_keys.ensures", "c.track_read_keys.ensures")):
-            answer("compare", changes=[("src/lib.rt", "i", "j"), ("proofs/compare/Answers.antt", old, new)]).check()
-        for old, new in (("omega arith", "search rules"), ("c.if-b-i.false", "c.if-b-i.true"), ("first_ends", "second_ends")):
+    def test_a_change_of_a_proof_only_takes_names_along(self):
+        code, proof = ("src/lib.rt", "i", "j"), "proofs/compare/Answers.antt"
+        followed = [("pub returns-then-b-i : goal.returns-then-b-i", "pub returns-then-b-a : goal.returns-then-b-a"), ("returns-then-b-i c =", "returns-then-b-a c =")]
+        answer("compare", changes=[code, *((proof, old, new) for old, new in followed)]).check()
+        swapped = [("c.track_write_keys.ensures", "c.track_read_keys.ensures"), ("c.track_read_keys.ensures", "c.track_write_keys.ensures")]
+        answer("serve_keys", crate="script", changes=[code, *(("proofs/served/serve_keys/Answers.antt", old, new) for old, new in swapped)]).check()
+        for old, new in (
+            ("omega arith", "search rules"),
+            ("c.if-i-b.false", "c.if-i-b.true"),
+            ("first_ends c.loop-i.invariant", "first_ends c.requires.invariant"),
+            ("returns-then-x-y c = c.if-x-y.true", "returns-then-y-x c = c.if-b-i.true"),
+            ("pub returns-then-b-i : goal.returns-then-b-i", "pub returns-then-b-a : goal.returns-then-b-b"),
+        ):
+            with self.assertRaisesRegex(Fault, "a change of a proof"):
+                answer("compare", changes=[code, (proof, old, new)]).check()
+        with self.assertRaisesRegex(Fault, "for something else"):
+            lemma = ("proofs/sound/Answers.antt", "le-leb _ _", "lt-leb _ _")
+            answer("sound", crate="room", changes=[code, lemma]).check()
+        for faulty in (
+            answer("compare", changes=[(proof, *followed[1])]),
+            answer("compare", changes=[code, ("proofs/OrderLaws.antt", "a-b", "a-c")]),
+            answer("equal", changes=[code, (proof, *followed[1])]),
+            answer(theorem="order_swap", changes=[("specs/Order.antt", "lt", "gt"), (proof, *followed[1])]),
+        ):
             with self.assertRaisesRegex(Fault, "in src/ alone"):
-                answer("compare", changes=[("proofs/compare/Answers.antt", old, new)]).check()
+                faulty.check()
 
     def test_an_old_text_stands_once_in_the_text_or_in_its_function(self):
         self.assertEqual(changed("a b c", "x", [("a", "A", None), ("c", "", None)]), "A b ")

@@ -31,17 +31,44 @@ class Wrong:
             raise Fault(f"{self}: it needs one line 'in: FUNCTION' or 'by: THEOREM'")
         if not self.changes:
             raise Fault(f"{self}: it has no 'old:' and 'new:' pair")
-        parts = {file.split("/")[0] for file, old, new in self.changes if not follows(file, old, new)}
-        if not parts <= ({"src"} if self.function else {"src", "specs"}):
+        parts = {file.split("/")[0] for file, _, _ in self.changes if not self.is_own_proof(file)}
+        if not parts or not parts <= ({"src"} if self.function else {"src", "specs"}):
             raise Fault(f"{self}: a wrong answer in a function is in src/ alone, and one of a definition in no proof")
+        for file in {file for file, _, _ in self.changes if self.is_own_proof(file)}:
+            self.check_names(file)
         return self
+
+    def is_own_proof(self, file):
+        """Whether a file is one of the two in which the function's proof cites names that Rattle makes of the code."""
+        *folders, name = file.split("/")
+        own = (self.function or "").split("::")
+        if folders[:1] != ["proofs"] or name not in ("Answers.antt", "Invariants.antt"):
+            return False
+        folders[-1] = folders[-1].removeprefix("+")
+        return folders[-len(own):] == own and not folders[-len(own) - 1][:1].isupper()
+
+    def check_names(self, file):
+        """A change of the proof only takes names along, each to one other wherever it stands, and none that stands for something else there."""
+        text = (ROOT / "crates" / self.crate / file).read_text(encoding="utf8")
+        brought = {name.strip() for path, names in USE.findall(text) if not path.endswith(".Goals") for name in names.split(",")}
+        named = {}
+        for _, old, new in (change for change in self.changes if change[0] == file):
+            if MADE.sub("-", old) != MADE.sub("-", new):
+                raise Fault(f"{self}: a change of a proof says something else than before: {new}")
+            for was, now in zip(MADE.findall(old), MADE.findall(new)):
+                if named.setdefault(was, now) != now or was != now and {was, now} & (brought | FIXED):
+                    raise Fault(f"{self}: a change of a proof takes `{was}` for something else: {new}")
+        moved = {was: now for was, now in named.items() if was != now}
+        stands = {name for name in MADE.findall(text) if name not in moved}
+        if len(set(moved.values())) < len(moved) or stands & set(moved.values()):
+            raise Fault(f"{self}: a change of a proof gives two names as one")
 
     def is_wide(self):
         """Whether it can break more than one function's proof: a definition, or a constant that stands outside its function."""
         return self.theorem is not None or any(self.outside(file, old) for file, old, _ in self.changes)
 
     def outside(self, file, old):
-        if file.startswith("proofs/"):
+        if self.is_own_proof(file):
             return False
         text = (ROOT / "crates" / self.crate / file).read_text(encoding="utf8")
         place = place_of(text, old, self.function)
@@ -50,11 +77,9 @@ class Wrong:
 
 # A name that Rattle makes of the code: a step of what is known, or parts that are joined by dashes.
 MADE = re.compile(r"(?<=\bc\.)[\w+-]+|[\w+]+(?:-[\w+]+)+")
-
-
-def follows(file, old, new):
-    """Whether a change of a proof only follows the names that a wrong answer's condition gives its goals, and so says nothing else than before."""
-    return file.startswith("proofs/") and MADE.sub("-", old) == MADE.sub("-", new)
+# What every step of every function has.
+FIXED = {"args", "requires", "ranges", "type_inv", "decreases", "lifetimes", "well_formed"}
+USE = re.compile(r"^use (\S+)\.\{([^}]*)\}", re.M)
 
 
 def edits(crate, folder):

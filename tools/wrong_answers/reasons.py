@@ -14,16 +14,17 @@ def reason(answer, log):
     """Where the answer was refused for itself. A proof that only misses what another refusal took away is no reason, and neither is one
     that does not fit the code any more."""
     errors = [match for match in map(ERROR.match, log.splitlines()) if match]
-    notes = []
+    notes, left = [], None
     if answer.theorem:
         own = [error for error in errors if error["name"] == answer.theorem]
     else:
         path, line, notes = function_line(answer, log)
-        if left := re.search(r"no proof: .*; `search` did not prove ([^;]*)", line):
-            return "what the code leaves to prove: " + ", ".join(re.findall(r"`([^`]*)`", left[1]))
+        left = re.search(r"no proof: .*; `search` did not prove ([^;]*)", line)
         own = [error for error in errors if proof_is_of(error["file"], path)]
     if misfit := next((error for error in own if MISFIT.search(error["said"])), None):
         raise Misfit(f"{answer}: its proof does not fit the code any more ({misfit['file']}:{misfit['line']}: {misfit['name'] or 'a use line'})")
+    if left:
+        return "what the code leaves to prove: " + ", ".join(re.findall(r"`([^`]*)`", left[1]))
     # What is said of no one declaration, as of a `use` line or of how many were left out, is no refusal.
     own = [error for error in own if error["name"] and "was not admitted" not in error["said"]]
     if own:

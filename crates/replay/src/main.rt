@@ -1,7 +1,7 @@
 // Replays a script: reads records from standard input and writes a line of answer for each.
 #![tactic(auto)]
 
-ghost use Rattle.std.specs.Prelude.{◌≡◌, ◌≤◌, length, IfOk};
+ghost use Rattle.std.specs.Prelude.{◌≡◌, ◌≤◌, length, IfOk, OnErr};
 ghost use Rattle.replay.specs.Left.{LeftIs};
 
 use manager::transaction_manager::new;
@@ -37,7 +37,8 @@ enum Left {
 // Feeds a piece, and writes the lines whenever they fill their place.
 fn play_piece(out: &Stdout, room: &mut [u8], piece: &[u8], lines: &mut [u8]) -> io::Result<Left>
     requires { length lines.old ≡ 65536 }
-    ensures { IfOk result (λ left. LeftIs piece.now left) }
+    ensures ok { IfOk result (λ left. LeftIs piece.now left) }
+    ensures err { OnErr result ((length room.new ≡ length room.old) × (length lines.new ≡ length lines.old)) }
 {
     let mut from = 0;
     loop {
@@ -57,7 +58,8 @@ fn play_piece(out: &Stdout, room: &mut [u8], piece: &[u8], lines: &mut [u8]) -> 
 // Reads behind the bytes that are held, and tells how many there are now.
 fn read_on(input: &mut Stdin, buffer: &mut [u8], have: usize) -> io::Result<usize>
     requires { have ≤ length buffer.old }
-    ensures { IfOk result (λ n. (have ≤ n) × (n ≤ length buffer.old)) }
+    ensures ok { IfOk result (λ n. (have ≤ n) × (n ≤ length buffer.old)) }
+    ensures err { OnErr result (length buffer.new ≡ length buffer.old) }
 {
     let got = input.read(&mut buffer[have..])?;
     Ok(have + got)

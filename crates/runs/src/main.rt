@@ -1,7 +1,7 @@
 // Replays the fixed sample of runs: reads them from standard input and writes a line of answer for each record.
 #![tactic(auto)]
 
-ghost use Rattle.std.specs.Prelude.{◌<◌, ◌≤◌, length, IfOk};
+ghost use Rattle.std.specs.Prelude.{◌≡◌, ◌<◌, ◌≤◌, length, IfOk, OnErr};
 
 use codec::numbers::read_eight;
 use manager::transaction_manager::new;
@@ -84,7 +84,8 @@ fn replay(out: &Stdout, room: &mut [u8; SIZE], runs: &[u8]) -> io::Result<()> {
 
 // Reads until the bytes are full or the input ends, and tells how many it put at their front.
 fn read_full(input: &mut Stdin, bytes: &mut [u8]) -> io::Result<usize>
-    ensures { IfOk result (λ n. n ≤ length bytes.new) }
+    ensures ok { IfOk result (λ n. n ≤ length bytes.new) }
+    ensures err { OnErr result (length bytes.new ≡ length bytes.old) }
 {
     let mut done = 0;
     while done < bytes.len() {
