@@ -1,13 +1,13 @@
 -- What the searches through the active transactions answer.
-use Rattle.std.specs.Prelude.{ℕ, min, ◌≡◌, List, [], ◌∷◌, ◌++◌, length}
+use Rattle.std.specs.Prelude.{ℕ, min, ◌≡◌, List, [], ◌∷◌, ◌++◌, Result, Ok, Err, length}
 use mathlib.Core.Ordering.{lt, eq, gt}
 use Rattle.keys.specs.Order.{order}
+use Rattle.fields.specs.declared.Span.{Span}
 use Rattle.machine.specs.Lists.{All}
 use Rattle.machine.specs.State.{Bytes, Txn}
 use Rattle.layout.specs.Offsets.{any_length}
 use Rattle.layout.specs.Records.{txn_form}
 use Rattle.layout.specs.Rows.{Fills, Row}
-use Rattle.places.specs.declared.finds.Place.{Place}
 
 -- every one of these has a lesser id
 abbrev pub IdsPassed : Bytes → List Txn → Type 0
@@ -41,11 +41,11 @@ pub record BeforeIn (s : List ℕ) (at : ℕ) (id : Bytes) (ts : List Txn) (e p 
   pub passed : IdsPassed id front
   pub stops : Stops id back
 
-abbrev pub PlaceIn : List ℕ → ℕ → Bytes → List Txn → ℕ → Place → Type 0
-PlaceIn s at id ts e (Place.Here p q) = HereIn s at id ts e p q
-PlaceIn s at id ts e (Place.Before p) = BeforeIn s at id ts e p
+abbrev pub PlaceIn : List ℕ → ℕ → Bytes → List Txn → ℕ → Result Span ℕ → Type 0
+PlaceIn s at id ts e (Ok p) = HereIn s at id ts e p.from p.to
+PlaceIn s at id ts e (Err p) = BeforeIn s at id ts e p
 
-pub record Found (s : List ℕ) (at n : ℕ) (id : Bytes) (r : Place) : Type 0 where
+pub record Found (s : List ℕ) (at n : ℕ) (id : Bytes) (r : Result Span ℕ) : Type 0 where
   pub is : (ts : List Txn) (e : ℕ) → Row (txn_form any_length) s at ts e → length ts ≡ n → PlaceIn s at id ts e r
 
 -- the least of m and the starts
