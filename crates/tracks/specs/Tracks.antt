@@ -1,5 +1,5 @@
 -- Tracks of keys: where the set that they go to stands in a transaction's record, and what it is when the keys of a list are added.
-use Rattle.std.specs.Prelude.{ℕ, ◌+◌, ◌-◌, ◌*◌, ◌≤◌, ◌≡◌, true, List, ◌++◌, length}
+use Rattle.std.specs.Prelude.{ℕ, ◌+◌, ◌-◌, ◌*◌, ◌≤◌, ◌≡◌, true, List, ◌++◌, Result, Ok, Err, length}
 use Rattle.std.proofs.Math.Option.{some}
 use Rattle.fields.specs.Fields.{key_list}
 use Rattle.fields.specs.Forms.{short_keys}
@@ -13,7 +13,8 @@ use Rattle.layout.specs.Keys.{set_form}
 use Rattle.layout.specs.Records.{txn_head_form, head_of, txn_form}
 use Rattle.layout.specs.Rows.{Fills}
 use Rattle.tracks.specs.Sets.{PassesLimits}
-use Rattle.tracks.specs.declared.Grown.{Grown}
+use Rattle.tracks.specs.declared.sets.Space.{Space}
+use Rattle.tracks.specs.declared.sets.Full.{Full}
 
 -- the bytes of a transaction's record before the set
 abbrev pub before_set : Which → Txn → Bytes
@@ -23,9 +24,9 @@ before_set Reads t = txn_head_form.write (head_of t) ++ (set_form any_length).wr
 pub record SetAt (s : Bytes) (txn : ℕ) (which : Which) (r : ℕ) : Type 0 where
   pub is : (t : Txn) (e : ℕ) → Fills (txn_form any_length) s txn t e → r ≡ txn + length (before_set which t)
 
--- a set stands at a place of the used bytes, a length can tell of each of the list's keys, and so many new ones pass neither a
--- total nor the room
-pub record Growable (s : Bytes) (used at : ℕ) (list : Bytes) (marks bytes : ℕ) : Type 0 where
+-- a set stands at a place of the used bytes, a length can tell of each of the list's keys, and what there is space for passes neither
+-- a total nor the room
+pub record Growable (s : Bytes) (used at : ℕ) (list : Bytes) (space : Space) : Type 0 where
   pub ks : List Bytes
   pub end : ℕ
   pub fills : Fills (set_form any_length) s at ks end
@@ -33,26 +34,26 @@ pub record Growable (s : Bytes) (used at : ℕ) (list : Bytes) (marks bytes : �
   pub keys : List Bytes
   pub listed : key_list list ≡ some keys
   pub short : short_keys any_length keys ≡ true
-  pub few : length ks + marks ≤ base.marks
-  pub small : set_bytes ks + bytes ≤ base.bytes
-  pub space : used + length_size * marks + bytes ≤ length s
+  pub few : length ks + space.marks ≤ base.marks
+  pub small : set_bytes ks + space.bytes ≤ base.bytes
+  pub room : used + length_size * space.marks + space.bytes ≤ length s
 
 -- the record of the set `all` stands in the place of that of `ks`; k of its keys are new
-pub record SetGrown (s : Bytes) (used at : ℕ) (ks : List Bytes) (e : ℕ) (all : List Bytes) (marks bytes : ℕ) (s' : Bytes) (k : ℕ) : Type 0 where
+pub record SetGrown (s : Bytes) (used at : ℕ) (ks : List Bytes) (e : ℕ) (all : List Bytes) (space : Space) (s' : Bytes) (k : ℕ) : Type 0 where
   pub spliced : Spliced s used at (e - at) ((set_form any_length).write all) s'
   pub new : length all ≡ length ks + k
-  pub few : length all ≤ length ks + marks
-  pub small : set_bytes all ≤ set_bytes ks + bytes
+  pub few : length all ≤ length ks + space.marks
+  pub small : set_bytes all ≤ set_bytes ks + space.bytes
 
 -- "Keeping half of a list that didn't fit" is shut out: no byte is changed
-pub record NotGrown (s : Bytes) (ks all : List Bytes) (marks bytes : ℕ) (s' : Bytes) : Type 0 where
+pub record NotGrown (s : Bytes) (ks all : List Bytes) (space : Space) (s' : Bytes) : Type 0 where
   pub same : s' ≡ s
-  pub passes : PassesLimits ks all marks bytes
+  pub passes : PassesLimits ks all space
 
-abbrev pub GrownOutcome : Bytes → ℕ → ℕ → List Bytes → ℕ → List Bytes → ℕ → ℕ → Bytes → Grown → Type 0
-GrownOutcome s used at ks e all marks bytes s' (Grown.New k) = SetGrown s used at ks e all marks bytes s' k
-GrownOutcome s used at ks e all marks bytes s' Grown.Full = NotGrown s ks all marks bytes s'
+abbrev pub GrownOutcome : Bytes → ℕ → ℕ → List Bytes → ℕ → List Bytes → Space → Bytes → Result ℕ Full → Type 0
+GrownOutcome s used at ks e all space s' (Ok k) = SetGrown s used at ks e all space s' k
+GrownOutcome s used at ks e all space s' (Err x) = NotGrown s ks all space s'
 
 -- for every set that the bytes can be read as, and every list of keys
-pub record GrownIs (s : Bytes) (used at : ℕ) (list : Bytes) (marks bytes : ℕ) (s' : Bytes) (r : Grown) : Type 0 where
-  pub is : (ks keys : List Bytes) (e : ℕ) → Fills (set_form any_length) s at ks e → key_list list ≡ some keys → GrownOutcome s used at ks e (insert_all keys ks) marks bytes s' r
+pub record GrownIs (s : Bytes) (used at : ℕ) (list : Bytes) (space : Space) (s' : Bytes) (r : Result ℕ Full) : Type 0 where
+  pub is : (ks keys : List Bytes) (e : ℕ) → Fills (set_form any_length) s at ks e → key_list list ≡ some keys → GrownOutcome s used at ks e (insert_all keys ks) space s' r

@@ -1,61 +1,65 @@
 // Tracks: the keys and ranges that an active transaction reads and writes, put into its record.
 #![tactic(auto)]
 
+ghost use Rattle.std.specs.Prelude.{◌≡◌};
 ghost use Rattle.machine.specs.Calls.{on, track_keys};
 ghost use Rattle.layout.specs.Offsets.{any_length};
 ghost use Rattle.layout.specs.Records.{txn_form};
 ghost use Rattle.layout.specs.Rooms.{Served};
 ghost use Rattle.layout.specs.Rows.{Here};
 ghost use Rattle.room.specs.Views.{Seen};
+ghost use Rattle.answers.specs.Says.{status_of, value_of};
+ghost use Rattle.answers.specs.declared.Refusal.{Refusal};
 ghost use Rattle.tracks.specs.Tracks.{SetAt, Growable, GrownIs};
 
-use crate::drafts::{Drafted, draft_keys};
-use answers::Answer;
+use crate::drafts::draft_keys;
+use crate::sets::{Full, Set, Space};
+use answers::{Outcome, Refusal};
 use codec::numbers::read_two;
-use fields::{Form, check_keys};
+use fields::check_keys;
 use layout::{COUNT, ID, WRITES};
 use machine::Which;
 use moves::{copy_in, splice};
-use places::finds::{Place, find_txn};
+use places::finds::find_txn;
 use places::skips::set_past;
 use room::View;
-use room::ceilings::{BYTE_LIMIT, MARK_LIMIT, SET_SIZE};
+use room::ceilings::SET_SIZE;
 
 pub mod drafts;
 pub mod range;
 pub mod sets;
 
-// How many keys are new in a set, if they fit.
-#[derive(Clone, Copy)]
-enum Grown {
-    New(usize),
-    Full,
+impl From<Full> for Refusal {
+    ghost from_gives = { λ _ refusal. refusal ≡ Refusal.Full };
+
+    fn from(_full: Full) -> Refusal {
+        Refusal::Full
+    }
 }
 
-// Puts the keys of a list into the set at a place; not more than `marks` new ones, nor more than `bytes` of new key bytes.
+// Puts the keys of a list into the set at a place, as far as there is space for new ones; answers how many are new.
 fn grow_set(
     room: &mut [u8],
     used: usize,
     at: usize,
     list: &[u8],
-    marks: usize,
-    bytes: usize,
-) -> Grown
-    requires { Growable room.old used at list.now marks bytes }
-    ensures { GrownIs room.old used at list.now marks bytes room.new result }
+    space: Space,
+) -> Result<usize, Full>
+    requires { Growable room.old used at list.now space }
+    ensures { GrownIs room.old used at list.now space room.new result }
 {
     let mut draft = [0u8; SET_SIZE];
     let from = at + COUNT;
     let end = set_past(room, at);
     let count = read_two(room, at);
     copy_in(&mut draft, COUNT, &room[from..end]);
-    match draft_keys(&mut draft, end - from, count, list, marks, bytes) {
-        Drafted::Set { end: n, count: all } => {
-            splice(room, used, at, end - at, &draft[0..n]);
-            return Grown::New(all - count);
-        }
-        Drafted::Full => return Grown::Full,
-    }
+    let old = Set {
+        used: end - from,
+        count,
+    };
+    let new = draft_keys(&mut draft, old, list, space)?;
+    splice(room, used, at, end - at, &draft[..new.used]);
+    Ok(new.count - count)
 }
 
 // Where that set of the transaction at a place stands.
@@ -70,37 +74,24 @@ fn set_at(room: &[u8], txn: usize, which: Which) -> usize
 }
 
 // Adds the keys of a list to a set of a transaction.
-pub fn track_keys(room: &mut [u8], v: View, which: Which, id: &[u8], list: &[u8]) -> Answer
+pub fn track_keys(
+    room: &mut [u8],
+    v: View,
+    which: Which,
+    id: &[u8],
+    list: &[u8],
+) -> Result<Outcome, Refusal>
     requires { Seen room.old v }
-    ensures { Served room.old (on (track_keys which id.now list.now)) result.status result.value room.new }
+    ensures { Served room.old (on (track_keys which id.now list.now)) (status_of result) (value_of result) room.new }
 {
-    let used = v.used;
-    let middle = v.middle;
-    let active = v.active;
-    let marks = v.marks;
-    let bytes = v.bytes;
     if id.len() != ID {
-        return Answer::MALFORMED;
+        return Err(Refusal::Malformed);
     }
-    match check_keys(list) {
-        Form::Good => match find_txn(room, middle, active, id) {
-            Place::Here { at, end: _ } => {
-                let set = set_at(room, at, which);
-                match grow_set(
-                    room,
-                    used,
-                    set,
-                    list,
-                    MARK_LIMIT - marks,
-                    BYTE_LIMIT - bytes,
-                ) {
-                    Grown::New(n) => return Answer::done(n as u64),
-                    Grown::Full => return Answer::FULL,
-                }
-            }
-            Place::Before(_) => return Answer::absent(0),
-        },
-        Form::LongKey => return Answer::LONG_KEY,
-        Form::Malformed => return Answer::MALFORMED,
-    }
+    check_keys(list)?;
+    let Ok(txn) = find_txn(room, v.middle, v.active, id) else {
+        return Ok(Outcome::Absent(0));
+    };
+    let set = set_at(room, txn.from, which);
+    let new = grow_set(room, v.used, set, list, Space::left(v))?;
+    Ok(Outcome::Done(new as u64))
 }

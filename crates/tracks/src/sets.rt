@@ -1,85 +1,101 @@
 // Sets of keys in a draft: the record of each key after the other, ascending.
+ghost use Rattle.std.specs.Prelude.{◌≡◌, ◌+◌, ◌≤◌};
+ghost use Rattle.machine.specs.State.{base};
 ghost use Rattle.layout.specs.Rows.{Rows};
-ghost use Rattle.tracks.specs.Sets.{key_codec, KeyPlaceIs, Ready, InsertedIs};
+ghost use Rattle.tracks.specs.Sets.{key_codec, KeyPlaceIs, Taken, Ready, InsertedIs};
 
-use fields::{NextKey, next_key};
+use fields::next_key;
 use layout::LENGTH;
 use moves::splice;
-use places::cursor::Cursor;
 use places::skips::key_past;
+use room::View;
+use room::ceilings::{BYTE_LIMIT, MARK_LIMIT};
 
-// Where a key belongs in a set: it is there, or it is to stand before what stands at a place.
+// A set of `count` keys in the first `used` bytes of a draft.
 #[derive(Clone, Copy)]
-enum KeyPlace {
-    There,
-    Before(usize),
+pub struct Set {
+    pub used: usize,
+    pub count: usize,
 }
 
-fn find_place(draft: &[u8], count: usize, key: &[u8]) -> KeyPlace
+// One of the two totals would be passed.
+#[derive(Clone, Copy)]
+pub struct Full;
+
+// How many new marks and new key bytes find room.
+#[derive(Clone, Copy)]
+pub struct Space {
+    pub marks: usize,
+    pub bytes: usize,
+}
+
+impl Space {
+    // What a state leaves of the two totals.
+    pub fn left(v: View) -> Self
+        requires { (v.marks ≤ base.marks) × (v.bytes ≤ base.bytes) }
+        ensures marks { v.marks + result.marks ≡ base.marks }
+        ensures bytes { v.bytes + result.bytes ≡ base.bytes }
+    {
+        Space {
+            marks: MARK_LIMIT - v.marks,
+            bytes: BYTE_LIMIT - v.bytes,
+        }
+    }
+
+    // What is left behind a mark with so many key bytes.
+    pub fn take(self, size: usize) -> Result<Self, Full>
+        ensures { Taken self size result }
+    {
+        if self.marks == 0 || self.bytes < size {
+            return Err(Full);
+        }
+        Ok(Space {
+            marks: self.marks - 1,
+            bytes: self.bytes - size,
+        })
+    }
+}
+
+// Where a new key belongs in a set; none if it is there.
+fn find_place(draft: &[u8], count: usize, key: &[u8]) -> Option<usize>
     requires { Rows key_codec draft.now 0 count }
     ensures { KeyPlaceIs draft.now count key.now result }
 {
-    let mut c = Cursor::new(0, count);
-    while 0 < c.left {
-        let from = c.at + LENGTH;
-        let next = key_past(draft, c.at);
-        let side = keys::compare(key, &draft[from..next]);
+    let mut at = 0;
+    for _ in 0..count {
+        let next = key_past(draft, at);
+        let side = keys::compare(key, &draft[at + LENGTH..next]);
         if side < 0 {
-            return KeyPlace::Before(c.at);
+            return Some(at);
         }
         if side == 0 {
-            return KeyPlace::There;
+            return None;
         }
-        c = c.past(next);
+        at = next;
     }
-    KeyPlace::Before(c.at)
+    Some(at)
 }
 
-#[derive(Clone, Copy)]
-pub enum Inserted {
-    All { used: usize, count: usize },
-    Full,
-}
-
-// Puts the keys of a list into the set of `count` keys in the first `used` bytes of a draft; not more than `marks` new ones, nor
-// more than `bytes` of new key bytes.
-pub fn insert_all(
-    draft: &mut [u8],
-    used: usize,
-    count: usize,
-    list: &[u8],
-    marks: usize,
-    bytes: usize,
-) -> Inserted
-    requires { Ready draft.old used count list.now marks bytes }
-    ensures { InsertedIs draft.old used count list.now marks bytes draft.new result }
+// Puts the keys of a list into a set in a draft, as far as there is space for new ones.
+pub fn insert_all(draft: &mut [u8], set: Set, list: &[u8], space: Space) -> Result<Set, Full>
+    requires { Ready draft.old set list.now space }
+    ensures { InsertedIs draft.old set list.now space draft.new result }
 {
-    let mut used = used;
-    let mut count = count;
-    let mut marks = marks;
-    let mut bytes = bytes;
+    let mut set = set;
+    let mut space = space;
     let mut at = 0;
-    loop {
-        match next_key(list, at) {
-            NextKey::Key { from, to } => match find_place(draft, count, &list[from..to]) {
-                KeyPlace::There => at = to,
-                KeyPlace::Before(place) => {
-                    let size = to - from;
-                    if marks == 0 || bytes < size {
-                        return Inserted::Full;
-                    }
-                    let head = from - LENGTH;
-                    splice(draft, used, place, 0, &list[head..to]);
-                    used += LENGTH + size;
-                    count += 1;
-                    marks -= 1;
-                    bytes -= size;
-                    at = to;
-                }
-            },
-            NextKey::End => return Inserted::All { used, count },
-            // The list reads to its end, as `Ready` says, so no next key is bad and this arm is never taken.
-            NextKey::Bad => return Inserted::Full,
+    // The list reads to its end, as `Ready` says.
+    while let Some(key) = next_key(list, at).unwrap() {
+        if let Some(place) = find_place(draft, set.count, &list[key.from..key.to]) {
+            let size = key.to - key.from;
+            space = space.take(size)?;
+            splice(draft, set.used, place, 0, &list[key.from - LENGTH..key.to]);
+            set = Set {
+                used: set.used + LENGTH + size,
+                count: set.count + 1,
+            };
         }
+        at = key.to;
     }
+    Ok(set)
 }
