@@ -1,9 +1,10 @@
 // Fields: a one-byte tag, a two-byte big-endian length and a payload; key lists and bounds, which are made of them.
 #![tactic(auto)]
 
-ghost use Rattle.std.specs.Prelude.{◌≡◌, ◌<◌};
+ghost use Rattle.std.specs.Prelude.{◌≡◌};
 ghost use Rattle.fields.specs.Fields.{key_list};
 ghost use Rattle.fields.specs.Forms.{FieldIs, NextIs, form_of, BoundFieldIs, BoundsAre};
+ghost use Rattle.fields.specs.declared.FormError.{FormError};
 
 use keys::KEY_LIMIT;
 use kinds::kind::Kind;
@@ -21,163 +22,128 @@ pub const EXCLUDED: u8 = 0x12;
 // A field's tag and length take this many bytes.
 pub const FIELD_HEAD: usize = 3;
 
-// The field at a place, its payload from one index to before another.
+// Where some bytes stand: from one index to before another.
 #[derive(Clone, Copy)]
-pub enum FieldAt {
-    At { tag: u8, from: usize, to: usize },
-    End,
-    Cut,
+pub struct Span {
+    pub from: usize,
+    pub to: usize,
 }
 
-fn wide(x: u8) -> usize
-    ensures { (result ≡ x) × (result < 256) }
-{
-    x as usize
+// A field, and where its payload stands.
+#[derive(Clone, Copy)]
+pub struct Field {
+    pub tag: u8,
+    pub payload: Span,
 }
 
-pub fn field_at(bytes: &[u8], at: usize) -> FieldAt
+// The bytes do not read as what was asked for.
+#[derive(Clone, Copy)]
+pub struct Malformed;
+
+// The field at a place, none where the bytes end there.
+pub fn field_at(bytes: &[u8], at: usize) -> Result<Option<Field>, Malformed>
     ensures { FieldIs bytes.now at result }
 {
     if bytes.len() <= at {
-        return FieldAt::End;
+        return Ok(None);
     }
-    let left = bytes.len() - at;
-    if left < FIELD_HEAD {
-        return FieldAt::Cut;
+    let [tag, high, low, rest @ ..] = &bytes[at..] else {
+        return Err(Malformed);
+    };
+    let n = usize::from(*high) * 256 + usize::from(*low);
+    if rest.len() < n {
+        return Err(Malformed);
     }
-    let n = wide(bytes[at + 1]) * 256 + wide(bytes[at + 2]);
-    if left - FIELD_HEAD < n {
-        return FieldAt::Cut;
-    }
-    let tag = bytes[at];
     let from = at + FIELD_HEAD;
     let to = from + n;
-    FieldAt::At { tag, from, to }
+    Ok(Some(Field { tag: *tag, payload: Span { from, to } }))
 }
 
-// The key at a place of a key list.
-#[derive(Clone, Copy)]
-pub enum NextKey {
-    Key { from: usize, to: usize },
-    End,
-    Bad,
-}
-
-pub fn next_key(list: &[u8], at: usize) -> NextKey
+// The key at a place of a key list, none where the list ends there.
+pub fn next_key(list: &[u8], at: usize) -> Result<Option<Span>, Malformed>
     ensures { NextIs list.now at result }
 {
-    match field_at(list, at) {
-        FieldAt::At { tag, from, to } => {
-            if tag == KEY {
-                return NextKey::Key { from, to };
-            }
-            NextKey::Bad
-        }
-        FieldAt::End => NextKey::End,
-        FieldAt::Cut => NextKey::Bad,
+    let Some(field) = field_at(list, at)? else {
+        return Ok(None);
+    };
+    if field.tag != KEY {
+        return Err(Malformed);
     }
+    Ok(Some(field.payload))
 }
 
-// Document 01's verdict on a key list: well formed, well formed with a key over the limit (4), badly formed (2).
+// Why a key list is refused: badly formed (2), or well formed with a key over the limit (4).
 #[derive(Clone, Copy)]
-pub enum Form {
-    Good,
-    LongKey,
+pub enum FormError {
     Malformed,
+    LongKey,
+}
+
+impl From<Malformed> for FormError {
+    ghost from_gives = { λ _ e. e ≡ FormError.Malformed };
+
+    fn from(_m: Malformed) -> FormError {
+        FormError::Malformed
+    }
 }
 
 // Judges the whole form before any key's length.
-pub fn check_keys(list: &[u8]) -> Form
+pub fn check_keys(list: &[u8]) -> Result<(), FormError>
     ensures { result ≡ form_of (key_list list.now) }
 {
     let mut at = 0;
     let mut short = true;
-    loop {
-        match next_key(list, at) {
-            NextKey::Key { from, to } => {
-                if KEY_LIMIT < to - from {
-                    short = false;
-                }
-                at = to;
-            }
-            NextKey::End => {
-                if short {
-                    return Form::Good;
-                }
-                return Form::LongKey;
-            }
-            NextKey::Bad => return Form::Malformed,
+    while let Some(key) = next_key(list, at)? {
+        if KEY_LIMIT < key.to - key.from {
+            short = false;
         }
+        at = key.to;
     }
+    if short { Ok(()) } else { Err(FormError::LongKey) }
 }
 
-// The bound at a place: its kind, and from where to where its key stands.
+// A bound: its kind, and where its key stands.
 #[derive(Clone, Copy)]
-enum BoundAt {
-    Found(Kind, usize, usize),
-    NoBound,
+pub struct BoundPlace {
+    pub kind: Kind,
+    pub key: Span,
 }
 
-fn bound_at(bytes: &[u8], at: usize) -> BoundAt
+fn bound_at(bytes: &[u8], at: usize) -> Result<BoundPlace, Malformed>
     ensures { BoundFieldIs bytes.now at result }
 {
-    match field_at(bytes, at) {
-        FieldAt::At { tag, from, to } => {
-            if tag == UNBOUNDED {
-                if from < to {
-                    return BoundAt::NoBound;
-                }
-                return BoundAt::Found(Kind::Unbounded, from, to);
-            }
-            if tag == INCLUDED {
-                return BoundAt::Found(Kind::Included, from, to);
-            }
-            if tag == EXCLUDED {
-                return BoundAt::Found(Kind::Excluded, from, to);
-            }
-            BoundAt::NoBound
+    let field = field_at(bytes, at)?.ok_or(Malformed)?;
+    let key = field.payload;
+    if field.tag == UNBOUNDED {
+        if key.from < key.to {
+            return Err(Malformed);
         }
-        FieldAt::End => BoundAt::NoBound,
-        FieldAt::Cut => BoundAt::NoBound,
+        return Ok(BoundPlace { kind: Kind::Unbounded, key });
     }
+    if field.tag == INCLUDED {
+        return Ok(BoundPlace { kind: Kind::Included, key });
+    }
+    if field.tag == EXCLUDED {
+        return Ok(BoundPlace { kind: Kind::Excluded, key });
+    }
+    Err(Malformed)
 }
 
-// Two bounds with the places of their keys.
+// Two bounds by the places of their keys.
 #[derive(Clone, Copy)]
 pub struct BoundPlaces {
-    pub start: Kind,
-    pub start_from: usize,
-    pub start_to: usize,
-    pub end: Kind,
-    pub end_from: usize,
-    pub end_to: usize,
-}
-
-#[derive(Clone, Copy)]
-pub enum ReadBounds {
-    Bounds(BoundPlaces),
-    NoBounds,
+    pub start: BoundPlace,
+    pub end: BoundPlace,
 }
 
 // Exactly two fields, start then end. Whether their keys are over the limit is for the caller to judge.
-pub fn read_bounds(bytes: &[u8]) -> ReadBounds
+pub fn read_bounds(bytes: &[u8]) -> Result<BoundPlaces, Malformed>
     ensures { BoundsAre bytes.now result }
 {
-    let BoundAt::Found(start, start_from, start_to) = bound_at(bytes, 0) else {
-        return ReadBounds::NoBounds;
-    };
-    let BoundAt::Found(end, end_from, end_to) = bound_at(bytes, start_to) else {
-        return ReadBounds::NoBounds;
-    };
-    if end_to < bytes.len() {
-        return ReadBounds::NoBounds;
+    let start = bound_at(bytes, 0)?;
+    let end = bound_at(bytes, start.key.to)?;
+    if end.key.to < bytes.len() {
+        return Err(Malformed);
     }
-    ReadBounds::Bounds(BoundPlaces {
-        start,
-        start_from,
-        start_to,
-        end,
-        end_from,
-        end_to,
-    })
+    Ok(BoundPlaces { start, end })
 }

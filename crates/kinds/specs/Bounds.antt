@@ -1,9 +1,10 @@
 -- Bounds: Rust's `Bound`, the two orders of document 01, and the keys that a bound admits.
-use Rattle.std.specs.Prelude.{ℕ, Bool, true, false, List}
+use Rattle.std.specs.Prelude.{ℕ, ◌≡◌, ◌≢◌, Bool, true, false, List, Result, Ok, Err}
 use mathlib.Core.Ordering.{Ordering, lt, eq, gt, swap, then}
 use Rattle.keys.specs.Order.{order, is_less, not_more}
 use Rattle.kinds.specs.declared.kind.Kind.{Kind}
 use Rattle.kinds.specs.declared.kind.Kind.TheVariants.{Unbounded, Included, Excluded}
+use Rattle.kinds.specs.declared.kind.UnknownTag.{UnknownTag}
 
 -- Rust's page on `Bound`, "An endpoint of a range of keys": an inclusive bound, an exclusive bound, an infinite endpoint
 pub data Bound : Type 0 where
@@ -16,6 +17,23 @@ abbrev pub bound : Kind → List ℕ → Bound
 bound Unbounded k = unbounded
 bound Included k = included k
 bound Excluded k = excluded k
+
+-- "tag 10 unbounded (length 0), 11 included, 12 excluded"
+abbrev pub bound_tag : Kind → ℕ
+bound_tag Unbounded = 0x10
+bound_tag Included = 0x11
+bound_tag Excluded = 0x12
+
+-- no kind has this tag
+pub record NoKind (tag : ℕ) : Type 0 where
+  pub not_unbounded : tag ≢ bound_tag Unbounded
+  pub not_included : tag ≢ bound_tag Included
+  pub not_excluded : tag ≢ bound_tag Excluded
+
+-- a tag is read as the kind whose tag it is, and one that no kind has is handed back
+abbrev pub TagRead : ℕ → Result Kind UnknownTag → Type 0
+TagRead tag (Ok kind) = tag ≡ bound_tag kind
+TagRead tag (Err e) = (e.0 ≡ tag) × NoKind tag
 
 abbrev pub is_bounded : Kind → Bool
 is_bounded Unbounded = false

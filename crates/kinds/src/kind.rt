@@ -1,9 +1,16 @@
 ghost use Rattle.std.specs.Prelude.{◌≡◌};
 ghost use Rattle.keys.specs.Order.{sign};
-ghost use Rattle.kinds.specs.Bounds.{bound, is_bounded, tie, tie_of, start_order, end_order, bound_order, start_admits, end_admits};
+ghost use Rattle.kinds.specs.Bounds.{bound, bound_tag, TagRead, is_bounded, tie, tie_of, start_order, end_order, bound_order, start_admits, end_admits};
+
+// The tags of the three kinds, where a bound is written as bytes.
+pub const UNBOUNDED: u8 = 0x10;
+
+pub const INCLUDED: u8 = 0x11;
+
+pub const EXCLUDED: u8 = 0x12;
 
 // What kind of bound a key makes: Rust's `Bound`, with the key in a slice beside it.
-#[derive(Clone, Copy)]
+#[derive(Clone, Copy, PartialEq, Eq, PartialOrd, Ord)]
 pub enum Kind {
     Unbounded,
     Included,
@@ -37,8 +44,7 @@ impl Kind {
     {
         match self {
             Kind::Unbounded => false,
-            Kind::Included => true,
-            Kind::Excluded => true,
+            Kind::Included | Kind::Excluded => true,
         }
     }
 
@@ -46,23 +52,7 @@ impl Kind {
     fn tie(self, other: Kind) -> i8
         ensures { result ≡ sign (tie self other) }
     {
-        match self {
-            Kind::Unbounded => match other {
-                Kind::Unbounded => 0,
-                Kind::Included => -1,
-                Kind::Excluded => -1,
-            },
-            Kind::Included => match other {
-                Kind::Unbounded => 1,
-                Kind::Included => 0,
-                Kind::Excluded => -1,
-            },
-            Kind::Excluded => match other {
-                Kind::Unbounded => 1,
-                Kind::Included => 1,
-                Kind::Excluded => 0,
-            },
-        }
+        self.cmp(&other) as i8
     }
 
     pub fn compare_start(self, key: &[u8], other: Kind, other_key: &[u8]) -> i8
@@ -122,6 +112,37 @@ impl Kind {
             Kind::Unbounded => true,
             Kind::Included => keys::compare(key, bound_key) <= 0,
             Kind::Excluded => keys::compare(key, bound_key) < 0,
+        }
+    }
+}
+
+// A tag that names no kind.
+#[derive(Clone, Copy)]
+pub struct UnknownTag(pub u8);
+
+impl TryFrom<u8> for Kind {
+    type Error = UnknownTag;
+
+    ghost try_from_gives = { TagRead };
+
+    fn try_from(tag: u8) -> Result<Self, UnknownTag> {
+        match tag {
+            UNBOUNDED => Ok(Kind::Unbounded),
+            INCLUDED => Ok(Kind::Included),
+            EXCLUDED => Ok(Kind::Excluded),
+            _ => Err(UnknownTag(tag)),
+        }
+    }
+}
+
+impl From<Kind> for u8 {
+    ghost from_gives = { λ kind tag. tag ≡ bound_tag kind };
+
+    fn from(kind: Kind) -> Self {
+        match kind {
+            Kind::Unbounded => UNBOUNDED,
+            Kind::Included => INCLUDED,
+            Kind::Excluded => EXCLUDED,
         }
     }
 }

@@ -1,10 +1,10 @@
 -- What the walk goes over one after another: keys of a set, ranges, entries, transactions. The key limit is any number m.
-use Rattle.std.specs.Prelude.{ℕ, ◌+◌, Bool, true, ◌||◌, List, eqb}
+use Rattle.std.specs.Prelude.{ℕ, ◌+◌, ◌≤◌, ◌≡◌, Bool, true, ◌||◌, List, eqb}
 use Rattle.machine.specs.State.{Bytes}
 use Rattle.layout.specs.Offsets.{id_size, length_size}
 use Rattle.layout.specs.Keys.{any_order, below}
-use Rattle.room.specs.declared.run.Loose.{Loose}
-use Rattle.room.specs.Counts.{Counted, a_key, a_range, an_entry, a_txn, run_of}
+use Rattle.layout.specs.Rows.{Fills}
+use Rattle.room.specs.Counts.{Counted, a_key, a_txn, run_of}
 use Rattle.room.specs.Walks.{between}
 
 -- how one is counted, and which may come before which; by the bytes, whether the one from e up to next may come after the one from p up to e, where
@@ -44,11 +44,12 @@ id_from s p e = between s p (p + id_size)
 abbrev pub the_txns : ℕ → Chain
 the_txns m = ascending (a_txn m) (λ t. t.id) id_from id_size
 
--- entries and ranges
-abbrev pub in_any_order : ℕ → Loose → Chain
-in_any_order m Loose.Entry = loose (an_entry m)
-in_any_order m Loose.Range = loose (a_range m)
-
 -- n of them
 abbrev pub chain_of : (C : Chain) → ℕ → Counted (List C.Of)
 chain_of C n = run_of C.one C.before n
+
+-- what the bytes tell of a chain: each takes its least, the first may be any, and whether one may follow another
+pub record Linked (C : Chain) : Type 0 where
+  pub takes : (s : List ℕ) (at e : ℕ) (a : C.Of) → Fills C.one.form s at a e → at + C.least ≤ e
+  pub first : (s : List ℕ) (at e : ℕ) → C.follows s at at e ≡ true
+  pub is : (s : List ℕ) (p e next : ℕ) (a b : C.Of) → Fills C.one.form s p a e → Fills C.one.form s e b next → C.follows s p e next ≡ C.before a b

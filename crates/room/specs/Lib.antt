@@ -3,3 +3,4 @@ pub mod Counts
 pub mod Walks
 pub mod Chains
 pub mod BoundWalks
+pub mod Links

@@ -1,5 +1,5 @@
 -- What a lent run of bytes is seen to be: the state that it holds, or that it holds none.
-use Rattle.std.specs.Prelude.{ℕ, ◌+◌, ◌≤◌, ◌≡◌, Bool, ◌&&◌, ◌||◌, ◌⊎◌, List, leb, ltb, eqb, length}
+use Rattle.std.specs.Prelude.{ℕ, ◌+◌, ◌≤◌, ◌≡◌, Bool, ◌&&◌, ◌||◌, ◌⊎◌, Option, Some, None, List, leb, ltb, eqb, length}
 use Rattle.machine.specs.State.{State, base, marks, key_bytes}
 use Rattle.machine.specs.Calls.{short, broken}
 use Rattle.codec.specs.Codec.{write_run}
@@ -11,9 +11,7 @@ use Rattle.layout.specs.Rooms.{load}
 use Rattle.room.specs.declared.tally.Tally.{Tally}
 use Rattle.room.specs.Walks.{Missing}
 use Rattle.room.specs.declared.Top.{Top}
-use Rattle.room.specs.declared.Headed.{Headed}
 use Rattle.room.specs.declared.View.{View}
-use Rattle.room.specs.declared.Opened.{Opened}
 
 -- a state's record stands at the front, and a view of it says where its parts stand and what the state counts
 pub record Seen (s : List ℕ) (v : View) : Type 0 where
@@ -33,9 +31,9 @@ pub record HoldsNone (s : List ℕ) : Type 0 where
   pub none : (load base s ≡ short) ⊎ (load base s ≡ broken)
 
 -- the two answers of opening a room
-abbrev pub Opening : List ℕ → Opened → Type 0
-Opening s (Opened.Of v) = Seen s v
-Opening s Opened.Bad = HoldsNone s
+abbrev pub Opening : List ℕ → Option View → Type 0
+Opening s (Some v) = Seen s v
+Opening s None = HoldsNone s
 
 -- what the part begins with
 abbrev pub counts_in : Top → Counts
@@ -48,9 +46,9 @@ pub record HeadIs (s : List ℕ) (t : Top) : Type 0 where
   pub inside : entries_at ≤ length s
 
 -- the head, or that none stands at the front
-abbrev pub HeadAt : List ℕ → Headed → Type 0
-HeadAt s (Headed.Is t) = HeadIs s t
-HeadAt s Headed.No = Missing head_form s 0
+abbrev pub HeadAt : List ℕ → Option Top → Type 0
+HeadAt s (Some t) = HeadIs s t
+HeadAt s None = Missing head_form s 0
 
 -- what a head and the totals say of `sound`
 abbrev pub soundly : Top → Tally → Bool

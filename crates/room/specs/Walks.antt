@@ -1,10 +1,8 @@
 -- What a walk over a record answers: what stands at a place and what it counts, or that nothing does.
-use Rattle.std.specs.Prelude.{ℕ, ◌+◌, ◌-◌, ◌≤◌, ◌≡◌, List, take, drop}
+use Rattle.std.specs.Prelude.{ℕ, ◌+◌, ◌-◌, ◌≤◌, ◌≡◌, Option, Some, None, List, take, drop}
 use Rattle.codec.specs.Codec.{Codec, cut}
 use Rattle.layout.specs.Rows.{Fills}
 use Rattle.room.specs.declared.tally.Tally.{Tally}
-use Rattle.room.specs.declared.tally.Walked.{Walked}
-use Rattle.room.specs.declared.tally.Walked.TheVariants.{Ends, Cut}
 use Rattle.room.specs.Counts.{Counted}
 
 -- a record stands from at up to the tally's end, and the tally is what it counts; a mark or a key byte takes a byte at least
@@ -21,9 +19,9 @@ pub record Missing {A : Type 0} (C : Codec A) (s : List ℕ) (at : ℕ) : Type 0
   pub reads : C.read (drop at s) ≡ cut
 
 -- the two answers of a walk
-abbrev pub Walks : {A : Type 0} → Counted A → List ℕ → ℕ → Walked → Type 0
-Walks K s at (Ends t) = Got K s at t
-Walks K s at Cut = Missing K.form s at
+abbrev pub Walks : {A : Type 0} → Counted A → List ℕ → ℕ → Option Tally → Type 0
+Walks K s at (Some t) = Got K s at t
+Walks K s at None = Missing K.form s at
 
 -- the bytes from p up to e
 abbrev pub between : List ℕ → ℕ → ℕ → List ℕ

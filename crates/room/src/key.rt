@@ -1,84 +1,69 @@
 // The walk over keys: one of them, and those of a set.
 ghost use Rattle.std.specs.Prelude.{◌≡◌, ◌+◌, ◌≤◌, length};
 ghost use Rattle.keys.specs.Limit.{key_limit};
-ghost use Rattle.layout.specs.Offsets.{length_size};
-ghost use Rattle.room.specs.Chains.{the_keys, chain_of};
+ghost use Rattle.room.specs.Chains.{the_keys};
 ghost use Rattle.room.specs.Counts.{a_key, a_set};
-ghost use Rattle.room.specs.Walks.{Walks, Apart};
+ghost use Rattle.room.specs.Walks.{Walks};
+ghost use Rattle.room.specs.Links.{keys_linked};
 
-use crate::tally::{Tally, Walked};
+use crate::chain::{Chained, chain_end};
+use crate::tally::Tally;
 use keys::KEY_LIMIT;
 use layout::{COUNT, LENGTH};
 
 // Where the key at a place ends, which has at most `limit` bytes.
-pub fn key_end(room: &[u8], at: usize, limit: usize) -> Walked
+pub fn key_end(room: &[u8], at: usize, limit: usize) -> Option<Tally>
     requires { at ≤ length room.now }
     ensures { Walks (a_key limit) room.now at result }
 {
     if room.len() - at < LENGTH {
-        return Walked::Cut;
+        return None;
     }
     let n = codec::numbers::read_two(room, at);
     if limit < n {
-        return Walked::Cut;
+        return None;
     }
     if room.len() - at - LENGTH < n {
-        return Walked::Cut;
+        return None;
     }
-    let end = at + LENGTH + n;
-    Walked::Ends(Tally {
-        end,
+    Some(Tally {
+        end: at + LENGTH + n,
         marks: 1,
         bytes: n,
         high: 0,
     })
 }
 
-// Whether the key of the record from e up to next comes after that of the one from p up to e; none is before it if p is e.
-fn key_follows(room: &[u8], p: usize, e: usize, next: usize) -> bool
-    requires { Apart length_size p e × ((e + length_size ≤ next) × (next ≤ length room.now)) }
-    ensures { result ≡ (the_keys key_limit).follows room.now p e next }
-{
-    if p == e {
-        return true;
-    }
-    let a = p + LENGTH;
-    let b = e + LENGTH;
-    keys::compare(&room[a..e], &room[b..next]) < 0
-}
+// The keys of a set: each is above the one before.
+pub struct Keys;
 
-// Where n keys end, each above the one before.
-fn keys_end(room: &[u8], at: usize, n: usize) -> Walked
-    requires { at ≤ length room.now }
-    ensures { Walks (chain_of (the_keys key_limit) n) room.now at result }
-{
-    let mut t = Tally::start(at);
-    let mut p = at;
-    let mut left = n;
-    while 0 < left {
-        match key_end(room, t.end, KEY_LIMIT) {
-            Walked::Ends(u) => {
-                if !key_follows(room, p, t.end, u.end) {
-                    return Walked::Cut;
-                }
-                p = t.end;
-                t = t.joined(u);
-                left -= 1;
-            }
-            Walked::Cut => return Walked::Cut,
-        }
+impl Chained for Keys {
+    ghost chain = { the_keys key_limit };
+
+    fn one_end(room: &[u8], at: usize) -> Option<Tally> {
+        key_end(room, at, KEY_LIMIT)
     }
-    Walked::Ends(t)
+
+    fn may_follow(room: &[u8], p: usize, e: usize, next: usize) -> bool {
+        if p == e {
+            return true;
+        }
+        let a = p + LENGTH;
+        let b = e + LENGTH;
+        keys::compare(&room[a..e], &room[b..next]) < 0
+    }
+
+    ghost linked = { keys_linked key_limit };
 }
 
 // Where the set at a place ends: keys behind their count.
-pub fn set_end(room: &[u8], at: usize) -> Walked
+pub fn set_end(room: &[u8], at: usize) -> Option<Tally>
     requires { at ≤ length room.now }
     ensures { Walks (a_set key_limit) room.now at result }
 {
     if room.len() - at < COUNT {
-        return Walked::Cut;
+        return None;
     }
     let n = codec::numbers::read_two(room, at);
-    keys_end(room, at + COUNT, n)
+    chain_end::<Keys>(room, at + COUNT, n)
 }

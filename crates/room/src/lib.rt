@@ -8,16 +8,16 @@ ghost use Rattle.layout.specs.States.{room_size};
 ghost use Rattle.room.specs.Views.{HeadAt, soundly, Opening};
 
 use crate::ceilings::{ACTIVE_LIMIT, BYTE_LIMIT, ENTRY_LIMIT, MARK_LIMIT, SIZE};
-use crate::record::active_end;
-use crate::run::{Loose, run_end};
-use crate::tally::{Tally, Walked};
+use crate::chain::chain_end;
+use crate::record::{Entries, Txns};
+use crate::tally::Tally;
 use layout::{ACTIVE_COUNT, ENTRIES, ENTRY_COUNT, LAST, STAMP};
 
 pub mod ceilings;
+pub mod chain;
 pub mod key;
 pub mod range;
 pub mod record;
-pub mod run;
 pub mod tally;
 
 // What stands before the entries: the last number, how many entries, how many active.
@@ -26,13 +26,6 @@ struct Top {
     last: u64,
     entries: usize,
     active: usize,
-}
-
-// What stands before the entries, or that the stamp is another.
-#[derive(Clone, Copy)]
-enum Headed {
-    Is(Top),
-    No,
 }
 
 // Where the parts of a state's record stand, and the machine's totals: the active ones begin at `middle`, the record ends at
@@ -48,26 +41,19 @@ pub struct View {
     pub bytes: usize,
 }
 
-// The record that a room holds, or that it holds none.
-#[derive(Clone, Copy)]
-pub enum Opened {
-    Of(View),
-    Bad,
-}
-
 // The head of a room, which the stamp decides.
-fn head(room: &[u8]) -> Headed
+fn head(room: &[u8]) -> Option<Top>
     requires { entries_at ≤ length room.now }
     ensures { HeadAt room.now result }
 {
     let stamp = codec::numbers::read_eight(room, 0);
     if stamp != STAMP {
-        return Headed::No;
+        return None;
     }
     let last = codec::numbers::read_eight(room, LAST);
     let entries = codec::numbers::read_two(room, ENTRY_COUNT);
     let active = codec::numbers::read_two(room, ACTIVE_COUNT);
-    Headed::Is(Top {
+    Some(Top {
         last,
         entries,
         active,
@@ -100,42 +86,34 @@ fn sound(top: Top, t: Tally) -> bool
 }
 
 // The state's record that a room holds, if it holds one. No byte beyond the published size is looked at.
-pub fn open(room: &[u8]) -> Opened
+pub fn open(room: &[u8]) -> Option<View>
     ensures { Opening room.now result }
 {
     if room.len() < SIZE {
-        return Opened::Bad;
+        return None;
     }
     open_record(&room[0..SIZE])
 }
 
 // The same, of a room that is as long as the published size at least.
-fn open_record(room: &[u8]) -> Opened
+fn open_record(room: &[u8]) -> Option<View>
     requires { room_size base ≤ length room.now }
     ensures { Opening room.now result }
 {
-    match head(room) {
-        Headed::No => Opened::Bad,
-        Headed::Is(top) => match run_end(room, Loose::Entry, ENTRIES, top.entries) {
-            Walked::Cut => Opened::Bad,
-            Walked::Ends(t) => match active_end(room, t.end, top.active) {
-                Walked::Cut => Opened::Bad,
-                Walked::Ends(u) => {
-                    let all = t.joined(u);
-                    if sound(top, all) {
-                        return Opened::Of(View {
-                            last: top.last,
-                            entries: top.entries,
-                            active: top.active,
-                            middle: t.end,
-                            used: all.end,
-                            marks: all.marks,
-                            bytes: all.bytes,
-                        });
-                    }
-                    Opened::Bad
-                }
-            },
-        },
+    let top = head(room)?;
+    let t = chain_end::<Entries>(room, ENTRIES, top.entries)?;
+    let u = chain_end::<Txns>(room, t.end, top.active)?;
+    let all = t.joined(u);
+    if !sound(top, all) {
+        return None;
     }
+    Some(View {
+        last: top.last,
+        entries: top.entries,
+        active: top.active,
+        middle: t.end,
+        used: all.end,
+        marks: all.marks,
+        bytes: all.bytes,
+    })
 }

@@ -2,92 +2,104 @@
 ghost use Rattle.std.specs.Prelude.{◌≡◌, ◌≤◌, length};
 ghost use Rattle.keys.specs.Limit.{key_limit};
 ghost use Rattle.room.specs.Counts.{a_range, some_ranges};
+ghost use Rattle.room.specs.Chains.{loose};
 ghost use Rattle.room.specs.Walks.{Walks};
-ghost use Rattle.room.specs.BoundWalks.{BoundIs, bound_walked};
+ghost use Rattle.room.specs.Links.{loose_linked};
+ghost use Rattle.room.specs.BoundWalks.{BoundIs, longest_key};
 
+use crate::chain::{Chained, chain_end};
 use crate::key::key_end;
-use crate::run::{Loose, run_end};
-use crate::tally::{Tally, Walked};
+use crate::tally::Tally;
 use bounds::comparable_range::ComparableRange;
 use fields::{EXCLUDED, INCLUDED, UNBOUNDED};
 use keys::KEY_LIMIT;
 use kinds::kind::Kind;
 use layout::{BOUND, COUNT, TAG};
 
-// The bound at a place, its kind and where it ends, or that none stands there.
+// A bound that stands in a room: its kind, and where it ends.
 #[derive(Clone, Copy)]
-enum StoredBound {
-    Ends(Kind, usize),
-    Cut,
-}
-
-// The bound of a kind whose key was walked.
-fn bound_of(kind: Kind, key: Walked) -> StoredBound
-    ensures { result ≡ bound_walked kind key }
-{
-    match key {
-        Walked::Ends(t) => StoredBound::Ends(kind, t.end),
-        Walked::Cut => StoredBound::Cut,
-    }
+struct StoredBound {
+    kind: Kind,
+    end: usize,
 }
 
 // The bound at a place: a tag and a key.
-fn bound_end(room: &[u8], at: usize) -> StoredBound
+fn bound_end(room: &[u8], at: usize) -> Option<StoredBound>
     requires { at ≤ length room.now }
     ensures { BoundIs key_limit room.now at result }
 {
     if room.len() - at < TAG {
-        return StoredBound::Cut;
+        return None;
     }
-    let tag = room[at];
-    if tag == UNBOUNDED {
-        return bound_of(Kind::Unbounded, key_end(room, at + TAG, 0));
-    }
-    if tag == INCLUDED {
-        return bound_of(Kind::Included, key_end(room, at + TAG, KEY_LIMIT));
-    }
-    if tag == EXCLUDED {
-        return bound_of(Kind::Excluded, key_end(room, at + TAG, KEY_LIMIT));
-    }
-    StoredBound::Cut
+    let kind = kind_of(room[at])?;
+    let key = key_end(room, at + TAG, key_room(kind))?;
+    Some(StoredBound { kind, end: key.end })
 }
 
-// Where the range at a place ends, which is not empty.
-pub fn range_end(room: &[u8], at: usize) -> Walked
-    requires { at ≤ length room.now }
-    ensures { Walks (a_range key_limit) room.now at result }
-{
-    match bound_end(room, at) {
-        StoredBound::Cut => Walked::Cut,
-        StoredBound::Ends(start, m) => match bound_end(room, m) {
-            StoredBound::Cut => Walked::Cut,
-            StoredBound::Ends(end, e) => {
-                let a = at + BOUND;
-                let b = m + BOUND;
-                let range = ComparableRange::new(start, end);
-                if range.non_empty(&room[a..m], &room[b..e]) {
-                    let bytes = m - a + (e - b);
-                    return Walked::Ends(Tally {
-                        end: e,
-                        marks: 1,
-                        bytes,
-                        high: 0,
-                    });
-                }
-                Walked::Cut
-            }
-        },
+// The kind that a tag names.
+fn kind_of(tag: u8) -> Option<Kind> {
+    if tag == UNBOUNDED {
+        return Some(Kind::Unbounded);
     }
+    if tag == INCLUDED {
+        return Some(Kind::Included);
+    }
+    if tag == EXCLUDED {
+        return Some(Kind::Excluded);
+    }
+    None
+}
+
+// How long a key may be that stands with a kind.
+fn key_room(kind: Kind) -> usize
+    ensures { result ≡ longest_key key_limit kind }
+{
+    match kind {
+        Kind::Unbounded => 0,
+        Kind::Included => KEY_LIMIT,
+        Kind::Excluded => KEY_LIMIT,
+    }
+}
+
+// The ranges of a transaction, in any order.
+pub struct Ranges;
+
+impl Chained for Ranges {
+    ghost chain = { loose (a_range key_limit) };
+
+    // A range is not empty.
+    fn one_end(room: &[u8], at: usize) -> Option<Tally> {
+        let start = bound_end(room, at)?;
+        let end = bound_end(room, start.end)?;
+        let a = at + BOUND;
+        let b = start.end + BOUND;
+        let range = ComparableRange::new(start.kind, end.kind);
+        if !range.non_empty(&room[a..start.end], &room[b..end.end]) {
+            return None;
+        }
+        Some(Tally {
+            end: end.end,
+            marks: 1,
+            bytes: start.end - a + (end.end - b),
+            high: 0,
+        })
+    }
+
+    fn may_follow(_room: &[u8], _p: usize, _e: usize, _next: usize) -> bool {
+        true
+    }
+
+    ghost linked = { loose_linked (a_range key_limit) };
 }
 
 // Where the list of ranges at a place ends: ranges behind their count.
-pub fn ranges_end(room: &[u8], at: usize) -> Walked
+pub fn ranges_end(room: &[u8], at: usize) -> Option<Tally>
     requires { at ≤ length room.now }
     ensures { Walks (some_ranges key_limit) room.now at result }
 {
     if room.len() - at < COUNT {
-        return Walked::Cut;
+        return None;
     }
     let n = codec::numbers::read_two(room, at);
-    run_end(room, Loose::Range, at + COUNT, n)
+    chain_end::<Ranges>(room, at + COUNT, n)
 }

@@ -2,8 +2,9 @@
 ghost use Rattle.script.specs.Played.{FedIs};
 
 use crate::lines::{LINE_LIMIT, put_line};
-use crate::records::{Next, next_record};
+use crate::records::next_record;
 use crate::served::serve_record;
+use answers::Answer;
 
 // Why feeding ended: the next record is not whole yet, it ends the run, or there is no place for its line.
 #[derive(Clone, Copy)]
@@ -26,30 +27,20 @@ pub fn feed(room: &mut [u8], bytes: &[u8], out: &mut [u8]) -> Fed
 {
     let mut at = 0;
     let mut put = 0;
-    loop {
+    let end = loop {
         if out.len() - put < LINE_LIMIT {
-            return Fed {
-                at,
-                put,
-                end: End::Full,
-            };
+            break End::Full;
         }
         match next_record(bytes, at) {
-            Next::Whole { tag, from, to } => {
-                let answer = serve_record(room, tag, &bytes[from..to]);
+            Ok(Some(record)) => {
+                let payload = record.payload;
+                let answer = Answer::from(serve_record(room, record.tag, &bytes[payload.from..payload.to]));
                 put = put_line(out, put, answer.status, answer.value);
-                at = to;
+                at = payload.to;
             }
-            Next::More => return Fed {
-                at,
-                put,
-                end: End::More,
-            },
-            Next::Stop => return Fed {
-                at,
-                put,
-                end: End::Stop,
-            },
+            Ok(None) => break End::More,
+            Err(_) => break End::Stop,
         }
-    }
+    };
+    Fed { at, put, end }
 }

@@ -1,55 +1,88 @@
 // Records, as their bytes arrive.
-ghost use Rattle.std.specs.Prelude.{◌≡◌, ◌<◌};
-ghost use Rattle.script.specs.Records.{NextRecordIs};
+ghost use Rattle.script.specs.Records.{TagIs, NextRecordIs};
 
-use fields::FIELD_HEAD;
+use fields::{FIELD_HEAD, Span};
 
 pub const PAYLOAD_LIMIT: usize = 32768;
 
-const FIRST_TAG: u8 = 0x01;
-
-const LAST_TAG: u8 = 0x09;
-
-// The record at a place: whole, its payload from one index to before another; cut, so far; or one that ends the run.
+// What a record asks for.
 #[derive(Clone, Copy)]
-pub enum Next {
-    Whole { tag: u8, from: usize, to: usize },
-    More,
-    Stop,
+pub enum Tag {
+    Begin,
+    Writes,
+    Reads,
+    Range,
+    Check,
+    Commit,
+    Batch,
+    Drop,
+    Minimum,
 }
 
-fn wide(x: u8) -> usize
-    ensures { (result ≡ x) × (result < 256) }
-{
-    x as usize
+// A tag that no record has.
+#[derive(Clone, Copy)]
+pub struct UnknownTag;
+
+impl TryFrom<u8> for Tag {
+    type Error = UnknownTag;
+
+    ghost try_from_gives = { TagIs };
+
+    fn try_from(tag: u8) -> Result<Self, UnknownTag> {
+        match tag {
+            0x01 => Ok(Tag::Begin),
+            0x02 => Ok(Tag::Writes),
+            0x03 => Ok(Tag::Reads),
+            0x04 => Ok(Tag::Range),
+            0x05 => Ok(Tag::Check),
+            0x06 => Ok(Tag::Commit),
+            0x07 => Ok(Tag::Batch),
+            0x08 => Ok(Tag::Drop),
+            0x09 => Ok(Tag::Minimum),
+            _ => Err(UnknownTag),
+        }
+    }
 }
 
-// A head is refused as soon as its bytes say so, however few have come.
-pub fn next_record(bytes: &[u8], at: usize) -> Next
+// A whole record, and where its payload stands.
+#[derive(Clone, Copy)]
+pub struct Record {
+    pub tag: u8,
+    pub payload: Span,
+}
+
+// The record ends the run.
+#[derive(Clone, Copy)]
+pub struct Stop;
+
+impl From<UnknownTag> for Stop {
+    ghost from_gives = { λ _ _. ⊤ };
+
+    fn from(_tag: UnknownTag) -> Stop {
+        Stop
+    }
+}
+
+// The record at a place, none where it is not whole yet. A head is refused as soon as its bytes say so, however few have come.
+pub fn next_record(bytes: &[u8], at: usize) -> Result<Option<Record>, Stop>
     ensures { NextRecordIs bytes.now at result }
 {
     if bytes.len() <= at {
-        return Next::More;
+        return Ok(None);
     }
-    let left = bytes.len() - at;
     let tag = bytes[at];
-    if tag < FIRST_TAG {
-        return Next::Stop;
-    }
-    if LAST_TAG < tag {
-        return Next::Stop;
-    }
-    if left < FIELD_HEAD {
-        return Next::More;
-    }
-    let n = wide(bytes[at + 1]) * 256 + wide(bytes[at + 2]);
+    let _known = Tag::try_from(tag)?;
+    let [_, high, low, rest @ ..] = &bytes[at..] else {
+        return Ok(None);
+    };
+    let n = usize::from(*high) * 256 + usize::from(*low);
     if PAYLOAD_LIMIT < n {
-        return Next::Stop;
+        return Err(Stop);
     }
-    if left - FIELD_HEAD < n {
-        return Next::More;
+    if rest.len() < n {
+        return Ok(None);
     }
     let from = at + FIELD_HEAD;
     let to = from + n;
-    Next::Whole { tag, from, to }
+    Ok(Some(Record { tag, payload: Span { from, to } }))
 }
