@@ -23,8 +23,6 @@ use Rattle.layout.proofs.OpenLaws.{open_txn}
 use Rattle.room.specs.declared.tally.Tally.{Tally}
 use Rattle.room.specs.Counts.{a_set, some_ranges, an_entry, a_txn, plus}
 use Rattle.room.specs.Walks.{Got, Missing}
-use Rattle.room.specs.Chains.{the_txns, id_from}
-use Rattle.room.proofs.ChainLaws.{Labelled, Linked, ascending_linked}
 use Rattle.room.proofs.KeyLaws.{number_short}
 
 -- ---- entries
@@ -55,14 +53,6 @@ module _ (limit : ℕ) (s : List ℕ) (at : ℕ) where
 least_txn : (limit : ℕ) (t : Txn) → (txn_form limit).Ok t → writes_at ≤ length ((txn_form limit).write t)
 unfolding txn_form via bind
 least_txn limit t o = omega (arith, txn_length limit t (id_long (head_of t) o.0))
-
-txn_labelled : (limit : ℕ) → Labelled (a_txn limit) (λ t. t.id) id_from id_size
-txn_labelled limit s at e t w =
-    let o = open_txn limit w in
-    (omega (arith, o.writes.from, o.reads.from, o.ranges.from), sym o.head.id_at_lem ∙ drop_take at (at + id_size) s)
-
-pub txns_linked : (limit : ℕ) → Linked (the_txns limit)
-txns_linked limit = ascending_linked (a_txn limit) (λ t. t.id) id_from id_size (omega arith) (txn_labelled limit)
 
 module _ (limit : ℕ) (s : List ℕ) (at : ℕ) where
   pub txn_short : length s - at < writes_at → Missing (txn_form limit) s at

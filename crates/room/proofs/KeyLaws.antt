@@ -17,8 +17,6 @@ use Rattle.layout.specs.Keys.{key_form}
 use Rattle.layout.proofs.OpenLaws.{open_key}
 use Rattle.room.specs.Counts.{a_key}
 use Rattle.room.specs.Walks.{Got, Missing}
-use Rattle.room.specs.Chains.{key_from, the_keys}
-use Rattle.room.proofs.ChainLaws.{Labelled, Linked, ascending_linked}
 
 pub number_short : (k : ℕ) (s : List ℕ) (at : ℕ) → length s - at < k → (number k).read (drop at s) ≡ cut
 number_short k s at h = too_short (number k) k (λ a o. omega (arith, length_number k a)) (drop at s) (rw (length-drop at s) h)
@@ -57,9 +55,3 @@ module _ (m : ℕ) (s : List ℕ) (at : ℕ) where
           high = refl;
           fits = omega arith;
         }
-
-pub key_labelled : (m : ℕ) → Labelled (a_key m) (λ k. k) key_from length_size
-key_labelled m s at e k w = let o = open_key m w in (omega (arith, o.ends), sym o.bytes ∙ drop_take (at + length_size) e s)
-
-pub keys_linked : (m : ℕ) → Linked (the_keys m)
-keys_linked m = ascending_linked (a_key m) (λ k. k) key_from length_size (omega arith) (key_labelled m)

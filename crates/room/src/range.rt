@@ -11,7 +11,6 @@ use crate::chain::{Chained, chain_end};
 use crate::key::key_end;
 use crate::tally::Tally;
 use bounds::comparable_range::ComparableRange;
-use fields::{EXCLUDED, INCLUDED, UNBOUNDED};
 use keys::KEY_LIMIT;
 use kinds::kind::Kind;
 use layout::{BOUND, COUNT, TAG};
@@ -31,23 +30,9 @@ fn bound_end(room: &[u8], at: usize) -> Option<StoredBound>
     if room.len() - at < TAG {
         return None;
     }
-    let kind = kind_of(room[at])?;
+    let kind = Kind::try_from(room[at]).ok()?;
     let key = key_end(room, at + TAG, key_room(kind))?;
     Some(StoredBound { kind, end: key.end })
-}
-
-// The kind that a tag names.
-fn kind_of(tag: u8) -> Option<Kind> {
-    if tag == UNBOUNDED {
-        return Some(Kind::Unbounded);
-    }
-    if tag == INCLUDED {
-        return Some(Kind::Included);
-    }
-    if tag == EXCLUDED {
-        return Some(Kind::Excluded);
-    }
-    None
 }
 
 // How long a key may be that stands with a kind.

@@ -7,4 +7,4 @@ pub returns-then-room-at-lt-COUNT : goal.returns-then-room-at-lt-COUNT
 returns-then-room-at-lt-COUNT c = set_short key_limit _ _ c.if-room-at-lt-COUNT.true
 
 pub returns : goal.returns
-returns c = set_ends key_limit _ _ _ c.read_two-n.ensures c.keys_end.result c.keys_end.ensures
+returns c = set_ends key_limit _ _ _ c.read_two-n.ensures c.chain_end.result c.chain_end.ensures
