@@ -1,6 +1,6 @@
 -- An entry stands where its sequence and its set do, a transaction where its id, its start, its sets and its ranges do; for any key limit.
 use Prim.Native.Nat.{ℕ, ◌+◌, ◌-◌, ◌≤◌, ◌<◌}
-use mathlib.Core.Path.{◌≡◌, refl, sym, ap, ap₂, ◌∙◌}
+use mathlib.Core.Path.{◌≡◌, refl, ap, ap₂, ◌∙◌}
 use mathlib.Core.Bool.{true}
 use mathlib.Core.List.{List}
 use native.Mathlib.Omega.{arith}
@@ -9,7 +9,6 @@ use lib.Dec.{leb}
 use lib.ListN.{length, take, drop, length-drop}
 use lib.Seq.{drop-drop}
 use Rattle.machine.specs.State.{Txn}
-use Rattle.moves.proofs.SpliceLaws.{drop_take}
 use Rattle.codec.specs.Codec.{item}
 use Rattle.codec.specs.Formats.{number, raw, bind, via}
 use Rattle.codec.specs.Stands.{Stands}
@@ -19,7 +18,6 @@ use Rattle.layout.specs.Keys.{set_form, ranges_form}
 use Rattle.layout.specs.Records.{entry_form, TxnHead, txn_head_form, head_of, to_txn, txn_form}
 use Rattle.layout.proofs.SizeLaws.{txn_length}
 use Rattle.layout.proofs.MachineLaws.{id_long}
-use Rattle.layout.proofs.OpenLaws.{open_txn}
 use Rattle.room.specs.declared.tally.Tally.{Tally}
 use Rattle.room.specs.Counts.{a_set, some_ranges, an_entry, a_txn, plus}
 use Rattle.room.specs.Walks.{Got, Missing}

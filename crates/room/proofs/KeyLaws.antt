@@ -1,12 +1,11 @@
 -- A key stands where its length does and so many bytes, and is its own label; for any key limit.
 use Prim.Native.Nat.{ℕ, ◌+◌, ◌-◌, ◌≤◌, ◌<◌}
-use mathlib.Core.Path.{◌≡◌, refl, sym, ◌∙◌}
+use mathlib.Core.Path.{◌≡◌, refl, sym}
 use mathlib.Core.List.{List}
 use native.Mathlib.Omega.{arith}
 use borrow.Author.Tests.{le-leb, lt-leb}
 use lib.ListN.{length, take, drop, length-drop}
 use lib.Seq.{drop-drop, length-take-le}
-use Rattle.moves.proofs.SpliceLaws.{drop_take}
 use Rattle.codec.specs.Codec.{cut}
 use Rattle.codec.specs.Formats.{number, raw, bind, only, via}
 use Rattle.codec.specs.Stands.{Stands}
@@ -14,7 +13,6 @@ use Rattle.codec.proofs.NumberLaws.{length_number}
 use Rattle.codec.proofs.RecordLaws.{too_short}
 use Rattle.layout.specs.Offsets.{length_size}
 use Rattle.layout.specs.Keys.{key_form}
-use Rattle.layout.proofs.OpenLaws.{open_key}
 use Rattle.room.specs.Counts.{a_key}
 use Rattle.room.specs.Walks.{Got, Missing}
 

@@ -28,9 +28,9 @@ module _ {A : Type 0} (K : Counted A) (label : A → Bytes) (label_at : List ℕ
     takes = λ s at e a w. (labelled s at e a w).0;
     first = λ s at e. rw (eq-eqb at at refl);
     is = λ s p e next a b v w.
-      let l = labelled s p e a v in
-      let d : p ≡ e → ⊥ = λ q. omega (arith, l.0) in
-      rw (ne_eqb p e d, l.1, (labelled s e next b w).1);
+        let l = labelled s p e a v in
+        let d : p ≡ e → ⊥ = λ q. omega (arith, l.0) in
+        rw (ne_eqb p e d, l.1, (labelled s e next b w).1);
   }
 
 pub key_labelled : (m : ℕ) → Labelled (a_key m) (λ k. k) key_from length_size

@@ -45,12 +45,7 @@ impl Chained for Keys {
     }
 
     fn may_follow(room: &[u8], p: usize, e: usize, next: usize) -> bool {
-        if p == e {
-            return true;
-        }
-        let a = p + LENGTH;
-        let b = e + LENGTH;
-        keys::compare(&room[a..e], &room[b..next]) < 0
+        p == e || keys::compare(&room[p + LENGTH..e], &room[e + LENGTH..next]) < 0
     }
 
     ghost linked = { keys_linked key_limit };

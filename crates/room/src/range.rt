@@ -31,12 +31,12 @@ fn bound_end(room: &[u8], at: usize) -> Option<StoredBound>
         return None;
     }
     let kind = Kind::try_from(room[at]).ok()?;
-    let key = key_end(room, at + TAG, key_room(kind))?;
+    let key = key_end(room, at + TAG, limit_of(kind))?;
     Some(StoredBound { kind, end: key.end })
 }
 
 // How long a key may be that stands with a kind.
-fn key_room(kind: Kind) -> usize
+fn limit_of(kind: Kind) -> usize
     ensures { result ≡ longest_key key_limit kind }
 {
     match kind {

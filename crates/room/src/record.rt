@@ -52,10 +52,7 @@ impl Chained for Txns {
     }
 
     fn may_follow(room: &[u8], p: usize, e: usize, next: usize) -> bool {
-        if p == e {
-            return true;
-        }
-        keys::compare(&room[p..p + ID], &room[e..e + ID]) < 0
+        p == e || keys::compare(&room[p..p + ID], &room[e..e + ID]) < 0
     }
 
     ghost linked = { txns_linked key_limit };

@@ -12,8 +12,8 @@ returns-in_err-kind c = rw c.from_residual.ensures (tag_unknown _ _ _ (omega ari
 
 pub returns-in_err-key : goal.returns-in_err-key
 returns-in_err-key c = rw c.from_residual-in_err-key.ensures (
-    key_missing _ _ _ (omega arith) c.type_inv.room c.in_ok-kind.kind (tag_of _ c.try_from.ensures (sym c.ok.ensures.value ∙ c.in_ok-kind.was)) (rw c.key_room.ensures at c.in_err-key.ensures))
+    key_missing _ _ _ (omega arith) c.type_inv.room c.in_ok-kind.kind (tag_of _ c.try_from.ensures (sym c.ok.ensures.value ∙ c.in_ok-kind.was)) (rw c.limit_of.ensures at c.in_err-key.ensures))
 
 pub returns : goal.returns
 returns c =
-    key_behind _ _ _ (omega arith) c.type_inv.room c.in_ok-kind.kind (tag_of _ c.try_from.ensures (sym c.ok.ensures.value ∙ c.in_ok-kind.was)) (rw c.key_room.ensures at c.in_ok-key.ensures)
+    key_behind _ _ _ (omega arith) c.type_inv.room c.in_ok-kind.kind (tag_of _ c.try_from.ensures (sym c.ok.ensures.value ∙ c.in_ok-kind.was)) (rw c.limit_of.ensures at c.in_ok-key.ensures)
