@@ -19,9 +19,11 @@ use Rattle.layout.specs.Records.{entry_form, TxnHead, txn_head_form, head_of, to
 use Rattle.layout.proofs.SizeLaws.{txn_length}
 use Rattle.layout.proofs.MachineLaws.{id_long}
 use Rattle.room.specs.declared.tally.Tally.{Tally}
-use Rattle.room.specs.Counts.{a_set, some_ranges, an_entry, a_txn, plus}
+use Rattle.room.specs.Counts.{a_range, a_set, some_ranges, an_entry, a_txn, plus}
 use Rattle.room.specs.Walks.{Got, Missing}
+use Rattle.room.specs.Chains.{loose, the_keys, list_of}
 use Rattle.room.proofs.KeyLaws.{number_short}
+use Rattle.room.proofs.ListLaws.{as_set, as_ranges}
 
 -- ---- entries
 
@@ -31,13 +33,13 @@ module _ (limit : ℕ) (s : List ℕ) (at : ℕ) where
   entry_short h = record { reads = rw (number_short number_size s at h) }
 
   module _ (n : ℕ) (r : Stands (number number_size) s at n (at + keys_at)) where
-    pub entry_cut : Missing (set_form limit) s (at + keys_at) → Missing (entry_form limit) s at
-    unfolding entry_form via bind
+    pub entry_cut : Missing (list_of (the_keys limit)).form s (at + keys_at) → Missing (entry_form limit) s at
+    unfolding entry_form via bind set_form
     entry_cut m = record { reads = rw (r.reads, m.reads) }
 
-    pub entry_got : {t : Tally} → Got (a_set limit) s (at + keys_at) t → Got (an_entry limit) s at (record { end = t.end; marks = t.marks; bytes = t.bytes; high = n })
+    pub entry_got : {t : Tally} → Got (list_of (the_keys limit)) s (at + keys_at) t → Got (an_entry limit) s at (record { end = t.end; marks = t.marks; bytes = t.bytes; high = n })
     unfolding entry_form via bind
-    entry_got {t} g = record {
+    entry_got {t} k = let g = as_set limit k in record {
       val = record { seq = n; keys = g.val };
       fills = record { stands = record { reads = rw (r.reads, g.fills.stands.reads) }; from = omega (arith, g.fills.from); inside = g.fills.inside };
       marks = g.marks;
@@ -71,21 +73,30 @@ module _ (limit : ℕ) (s : List ℕ) (at : ℕ) where
     unfolding txn_head_form via bind raw
     head_is = record { reads = rw (id_stands, drop-drop id_size at s, start_is) }
 
-    pub no_writes : Missing (set_form limit) s (at + writes_at) → Missing (txn_form limit) s at
-    unfolding txn_form via bind
+    pub no_writes : Missing (list_of (the_keys limit)).form s (at + writes_at) → Missing (txn_form limit) s at
+    unfolding txn_form set_form via bind
     no_writes m = record { reads = rw (head_is.reads, m.reads) }
 
-    module _ {w : Tally} (a : Got (a_set limit) s (at + writes_at) w) where
-      pub no_reads : Missing (set_form limit) s w.end → Missing (txn_form limit) s at
-      unfolding txn_form via bind
+    module _ {w : Tally} (writes : Got (list_of (the_keys limit)) s (at + writes_at) w) where
+      a : Got (a_set limit) s (at + writes_at) w
+      a = as_set limit writes
+
+      pub no_reads : Missing (list_of (the_keys limit)).form s w.end → Missing (txn_form limit) s at
+      unfolding txn_form set_form via bind
       no_reads m = record { reads = rw (head_is.reads, a.fills.stands.reads, m.reads) }
 
-      module _ {u : Tally} (b : Got (a_set limit) s w.end u) where
-        pub no_ranges : Missing (ranges_form limit) s u.end → Missing (txn_form limit) s at
-        unfolding txn_form via bind
+      module _ {u : Tally} (reads : Got (list_of (the_keys limit)) s w.end u) where
+        b : Got (a_set limit) s w.end u
+        b = as_set limit reads
+
+        pub no_ranges : Missing (list_of (loose (a_range limit))).form s u.end → Missing (txn_form limit) s at
+        unfolding txn_form ranges_form via bind
         no_ranges m = record { reads = rw (head_is.reads, a.fills.stands.reads, b.fills.stands.reads, m.reads) }
 
-        module _ {x : Tally} (c : Got (some_ranges limit) s u.end x) (sets : Tally) (es : sets ≡ plus w u) where
+        module _ {x : Tally} (ranges : Got (list_of (loose (a_range limit))) s u.end x) (sets : Tally) (es : sets ≡ plus w u) where
+          c : Got (some_ranges limit) s u.end x
+          c = as_ranges limit ranges
+
           pub join_ranges : (sets.marks + sets.bytes ≤ sets.end) × (sets.end + x.marks + x.bytes ≤ x.end)
           join_ranges = rw es (omega (arith, a.fits, b.fits), omega (arith, c.fits))
 
