@@ -6,6 +6,8 @@ use mathlib.Core.List.{◌∷◌, ◌++◌}
 use mathlib.Core.Option.{none, some}
 use native.Mathlib.Omega.{arith}
 use lib.ListN.{length}
+use Rattle.std.specs.Prelude.{Ok, Err}
+use Rattle.fields.specs.declared.Span.{Span}
 use Rattle.machine.specs.State.{Bytes, State, with_active, Txn, Ceilings, base, marks, key_bytes, Fits}
 use Rattle.machine.specs.Sets.{put, find}
 use Rattle.machine.proofs.ListLaws.{all_map}
@@ -18,7 +20,6 @@ use Rattle.layout.proofs.RowLaws.{row_end}
 use Rattle.layout.proofs.SizeLaws.{fits_size}
 use Rattle.layout.proofs.HoldLaws.{base_small}
 use Rattle.layout.proofs.LoadLaws.{Changed}
-use Rattle.places.specs.declared.finds.Place.{Place}
 use Rattle.places.specs.Finds.{Found, HereIn, BeforeIn}
 use Rattle.places.proofs.FindLaws.{here_id, here_finds, here_puts, before_finds}
 use Rattle.edits.specs.Laid.{Laid, write_entries, write_active}
@@ -40,25 +41,25 @@ module _ {s : Bytes} {v : View} (n : Seen s v) where
       let a = all_map _ (λ t. length t.id ≡ id_size) (λ t o. o.id_length) n.state.active (seen_held n).kept.txns in
       omega (arith, fits_size L base.key n.state f a, sight_used base base_small s n.state v.used n.whole n.inside n.size, n.marks, n.bytes, (seen_held n).kept.ceilings.marks, (seen_held n).kept.ceilings.bytes)
 
-  module _ {id : Bytes} {p : ℕ} (f : Found s v.middle v.active id (Place.Before p)) where
+  module _ {id : Bytes} {p : ℕ} (f : Found s v.middle v.active id (Err p)) where
     pub not_here : BeforeIn s v.middle id n.state.active v.used p
-    not_here = found_in n id (Place.Before p) f
+    not_here = found_in n id (Err p) f
 
     pub not_found : find id n.state.active ≡ none
     not_found = before_finds not_here (seen_held n).kept.distinct
 
-  module _ {id : Bytes} {p q : ℕ} (f : Found s v.middle v.active id (Place.Here p q)) where
-    pub here : HereIn s v.middle id n.state.active v.used p q
-    here = found_in n id (Place.Here p q) f
+  module _ {id : Bytes} {p : Span} (f : Found s v.middle v.active id (Ok p)) where
+    pub here : HereIn s v.middle id n.state.active v.used p.from p.to
+    here = found_in n id (Ok p) f
 
-    pub txn_here : Here (txn_form any_length) s p
-    txn_here = record { val = here.one; end = q; fills = here.fills }
+    pub txn_here : Here (txn_form any_length) s p.from
+    txn_here = record { val = here.one; end = p.to; fills = here.fills }
 
     pub found : find id n.state.active ≡ some here.one
     found = here_finds here
 
-    pub place : p ≡ entries_at + (length (write_entries n.state.entries) + length (write_active here.front))
-    place = row_end (txn_form any_length) s v.middle here.front p here.before ∙ omega (arith, seen_middle n)
+    pub place : p.from ≡ entries_at + (length (write_entries n.state.entries) + length (write_active here.front))
+    place = row_end (txn_form any_length) s v.middle here.front p.from here.before ∙ omega (arith, seen_middle n)
 
     pub laid : Laid base s s v.used (heads_of n.state) (write_entries n.state.entries) (write_active (here.front ++ (here.one ∷ here.back)))
     laid = relaid refl refl refl (ap write_active here.whole) (seen_laid n)

@@ -3,6 +3,8 @@ use Prim.Native.Nat.{ℕ, ◌+◌, ◌≤◌}
 use mathlib.Core.Path.{◌≡◌, sym, ap, ◌∙◌}
 use mathlib.Core.List.{List}
 use lib.ListN.{length}
+use Rattle.std.specs.Prelude.{Result}
+use Rattle.fields.specs.declared.Span.{Span}
 use Rattle.machine.specs.State.{Bytes, base}
 use Rattle.machine.specs.Calls.{Op, on, holding}
 use Rattle.layout.specs.Records.{entry_form, txn_form}
@@ -14,7 +16,6 @@ use Rattle.layout.proofs.HoldLaws.{base_small}
 use Rattle.layout.proofs.WideLaws.{entries_alike}
 use Rattle.layout.proofs.LoadLaws.{Held, no_state}
 use Rattle.edits.specs.Laid.{Laid, write_entries, write_active}
-use Rattle.places.specs.declared.finds.Place.{Place}
 use Rattle.places.specs.Finds.{Found, PlaceIn}
 use Rattle.room.specs.declared.View.{View}
 use Rattle.room.specs.Views.{Seen, HoldsNone}
@@ -56,5 +57,5 @@ module _ {s : List ℕ} {v : View} (w : Seen s v) where
   active_rows = record { vals = w.state.active; end = v.used; row = active_row; count = sym w.active }
 
   -- where the search for an id among the active ones ended
-  pub found_in : (id : Bytes) (r : Place) → Found s v.middle v.active id r → PlaceIn s v.middle id w.state.active v.used r
+  pub found_in : (id : Bytes) (r : Result Span ℕ) → Found s v.middle v.active id r → PlaceIn s v.middle id w.state.active v.used r
   found_in id r f = f.is w.state.active v.used active_row (sym w.active)

@@ -1,14 +1,13 @@
 -- Pairs of bounds: membership, emptiness, intersection and union, in document 01's words.
-use Rattle.std.specs.Prelude.{ℕ, Bool, true, false, cond, ◌&&◌, ◌||◌, List}
+use Rattle.std.specs.Prelude.{ℕ, Bool, true, false, cond, ◌&&◌, ◌||◌, List, Option, Some, None, is_some, option_map}
 use mathlib.Core.Ordering.{Ordering, then}
 use Rattle.keys.specs.Order.{order, is_less, is_same, not_more}
 use Rattle.bounds.specs.declared.comparable_range.ComparableRange.{ComparableRange}
 use Rattle.bounds.specs.declared.sides.Side.{Side}
 use Rattle.bounds.specs.declared.sides.Side.TheVariants.{First}
-use Rattle.bounds.specs.declared.sides.Combined.{Combined}
-use Rattle.bounds.specs.declared.sides.Combined.TheVariants.{Of, Nothing}
+use Rattle.bounds.specs.declared.sides.Sides.{Sides}
 use Rattle.kinds.specs.Bounds.{Bound, unbounded, included, excluded, bound, start_order, end_order, start_admits, end_admits}
-use Rattle.bounds.specs.Sides.{sided, max_start, min_end, max_end, is_given, swap_sides}
+use Rattle.bounds.specs.Sides.{sided, max_start, min_end, max_end, sides, swap_sides}
 
 pub record Range : Type 0 where
   pub start : Bound
@@ -48,11 +47,11 @@ abbrev pub taken : Side → Side → Range → Range → Range
 taken s e a b = range (sided s a.start b.start) (sided e a.end b.end)
 
 -- "Intersect takes the greater start and lesser end, and answers nothing if that pair is empty."
-unfoldable pub intersect_of : Range → Range → Combined
+unfoldable pub intersect_of : Range → Range → Option Sides
 intersect_of a b =
     let s = max_start a.start b.start in
     let e = min_end a.end b.end in
-    cond (not_empty (taken s e a b)) (Of s e) Nothing
+    cond (not_empty (taken s e a b)) (Some (sides s e)) None
 
 -- "They touch when the first's end and the second's start hold equal keys, one included and one excluded."
 abbrev pub touches_pair : Bound → Bound → Bool
@@ -72,16 +71,16 @@ abbrev pub range_order : Range → Range → Ordering
 range_order a b = then (start_order a.start b.start) (end_order a.end b.end)
 
 -- "given exactly if they intersect or touch": the first's start and the greater end
-unfoldable pub join_of : Range → Range → Combined
+unfoldable pub join_of : Range → Range → Option Sides
 join_of first second =
     cond
-    (is_given (intersect_of first second) || touches first second)
-    (Of First (max_end first.end second.end))
-    Nothing
+    (is_some (intersect_of first second) || touches first second)
+    (Some (sides First (max_end first.end second.end)))
+    None
 
 -- "Union, first range the lesser by start and then end"
-unfoldable pub union_of : Range → Range → Combined
-union_of a b = cond (is_less (range_order a b)) (join_of a b) (swap_sides (join_of b a))
+unfoldable pub union_of : Range → Range → Option Sides
+union_of a b = cond (is_less (range_order a b)) (join_of a b) (option_map swap_sides (join_of b a))
 
 -- "included k to included k answers k, every other range nothing"
 abbrev pub is_point_pair : Bound → Bound → Bool

@@ -1,11 +1,10 @@
 -- Sides: one of two, the greater start, the lesser and the greater end, and what is combined of them.
-use Rattle.std.specs.Prelude.{Bool, true, false, cond}
+use Rattle.std.specs.Prelude.{cond}
 use Rattle.keys.specs.Order.{is_more}
 use Rattle.kinds.specs.Bounds.{Bound, start_order, end_order}
 use Rattle.bounds.specs.declared.sides.Side.{Side}
 use Rattle.bounds.specs.declared.sides.Side.TheVariants.{First, Second}
-use Rattle.bounds.specs.declared.sides.Combined.{Combined}
-use Rattle.bounds.specs.declared.sides.Combined.TheVariants.{Of, Nothing}
+use Rattle.bounds.specs.declared.sides.Sides.{Sides}
 
 -- one of two, by the side that it comes from
 abbrev pub sided {ℓ} : {A : Type ℓ} → Side → A → A → A
@@ -26,10 +25,8 @@ min_end a b = cond (is_more (end_order a b)) Second First
 abbrev pub max_end : Bound → Bound → Side
 max_end a b = cond (is_more (end_order a b)) First Second
 
-abbrev pub is_given : Combined → Bool
-is_given (Of s e) = true
-is_given Nothing = false
+abbrev pub sides : Side → Side → Sides
+sides s e = record { start = s; end = e }
 
-abbrev pub swap_sides : Combined → Combined
-swap_sides (Of s e) = Of (other_side s) (other_side e)
-swap_sides Nothing = Nothing
+abbrev pub swap_sides : Sides → Sides
+swap_sides p = sides (other_side p.start) (other_side p.end)

@@ -4,7 +4,7 @@ ghost use Rattle.kinds.specs.Bounds.{bound};
 ghost use Rattle.bounds.specs.Ranges.{range, range_of, range_order, holds, not_empty, touches_pair, intersect_of, join_of, union_of};
 ghost use Rattle.bounds.specs.Sides.{sided, max_start, min_end};
 
-use crate::sides::{Combined, Side, max_end, max_start, min_end};
+use crate::sides::{Side, Sides, max_end, max_start, min_end};
 use kinds::kind::Kind;
 
 // A pair of bounds: the kinds, with the keys in slices beside them.
@@ -37,13 +37,11 @@ impl ComparableRange {
     ) -> i8
         ensures { result ≡ sign (range_order (range_of self start_key.now end_key.now) (range_of other other_start_key.now other_end_key.now)) }
     {
-        let a = self.start;
-        let b = other.start;
-        let o = a.compare_start(start_key, b, other_start_key);
+        let o = self
+            .start
+            .compare_start(start_key, other.start, other_start_key);
         if o == 0 {
-            let c = self.end;
-            let d = other.end;
-            return c.compare_end(end_key, d, other_end_key);
+            return self.end.compare_end(end_key, other.end, other_end_key);
         }
         o
     }
@@ -55,24 +53,20 @@ impl ComparableRange {
         other: ComparableRange,
         other_start_key: &'a [u8],
         other_end_key: &'a [u8],
-    ) -> Combined
+    ) -> Option<Sides>
         ensures { result ≡ intersect_of (range_of self start_key.now end_key.now) (range_of other other_start_key.now other_end_key.now) }
     {
-        let a = self.start;
-        let b = other.start;
-        let c = self.end;
-        let d = other.end;
-        let start = max_start(a, start_key, b, other_start_key);
-        let end = min_end(c, end_key, d, other_end_key);
-        let range = ComparableRange::new(start.kind(a, b), end.kind(c, d));
-        Combined::when(
-            range.non_empty(
-                start.key(start_key, other_start_key),
-                end.key(end_key, other_end_key),
-            ),
-            start,
-            end,
-        )
+        let start = max_start(self.start, start_key, other.start, other_start_key);
+        let end = min_end(self.end, end_key, other.end, other_end_key);
+        let range = ComparableRange::new(
+            start.pick(self.start, other.start),
+            end.pick(self.end, other.end),
+        );
+        let non_empty = range.non_empty(
+            start.pick(start_key, other_start_key),
+            end.pick(end_key, other_end_key),
+        );
+        non_empty.then_some(Sides { start, end })
     }
 
     // The greater start's key, handed back as a part of whichever slice it came in: for callers, since `intersect` answers
@@ -85,10 +79,10 @@ impl ComparableRange {
     ) -> &'a [u8]
         ensures { result.now ≡ sided (max_start (bound self.start start_key.now) (bound other.start other_start_key.now)) start_key.now other_start_key.now }
     {
-        let a = self.start;
-        let b = other.start;
-        let side = max_start(a, start_key, b, other_start_key);
-        side.key(start_key, other_start_key)
+        max_start(self.start, start_key, other.start, other_start_key).pick(
+            start_key,
+            other_start_key,
+        )
     }
 
     // The lesser end's key, likewise.
@@ -100,10 +94,7 @@ impl ComparableRange {
     ) -> &'a [u8]
         ensures { result.now ≡ sided (min_end (bound self.end end_key.now) (bound other.end other_end_key.now)) end_key.now other_end_key.now }
     {
-        let a = self.end;
-        let b = other.end;
-        let side = min_end(a, end_key, b, other_end_key);
-        side.key(end_key, other_end_key)
+        min_end(self.end, end_key, other.end, other_end_key).pick(end_key, other_end_key)
     }
 
     pub fn union<'a>(
@@ -113,14 +104,15 @@ impl ComparableRange {
         other: ComparableRange,
         other_start_key: &'a [u8],
         other_end_key: &'a [u8],
-    ) -> Combined
+    ) -> Option<Sides>
         ensures { result ≡ union_of (range_of self start_key.now end_key.now) (range_of other other_start_key.now other_end_key.now) }
     {
         if self.compare(start_key, end_key, other, other_start_key, other_end_key) < 0 {
             return self.join(start_key, end_key, other, other_start_key, other_end_key);
         }
-        let joined = other.join(other_start_key, other_end_key, self, start_key, end_key);
-        joined.swapped()
+        other
+            .join(other_start_key, other_end_key, self, start_key, end_key)
+            .map(Sides::swapped)
     }
 
     // The union of a first range with a second one.
@@ -131,21 +123,18 @@ impl ComparableRange {
         other: ComparableRange,
         other_start_key: &'a [u8],
         other_end_key: &'a [u8],
-    ) -> Combined
+    ) -> Option<Sides>
         ensures { result ≡ join_of (range_of self start_key.now end_key.now) (range_of other other_start_key.now other_end_key.now) }
     {
-        let a = self.end;
-        let b = other.end;
-        let end = max_end(a, end_key, b, other_end_key);
-        let shared = self.intersect(start_key, end_key, other, other_start_key, other_end_key);
-        if shared.is_given() {
-            return Combined::when(true, Side::First, end);
-        }
-        Combined::when(
-            self.are_adjacent(end_key, other, other_start_key),
-            Side::First,
+        let end = max_end(self.end, end_key, other.end, other_end_key);
+        let meets = self
+            .intersect(start_key, end_key, other, other_start_key, other_end_key)
+            .is_some()
+            || self.are_adjacent(end_key, other, other_start_key);
+        meets.then_some(Sides {
+            start: Side::First,
             end,
-        )
+        })
     }
 
     // Whether this range's end and the other's start hold equal keys, one included and one excluded.
@@ -157,40 +146,21 @@ impl ComparableRange {
     ) -> bool
         ensures { result ≡ touches_pair (bound self.end end_key.now) (bound other.start other_start_key.now) }
     {
-        let end = self.end;
-        let start = other.start;
-        match end {
-            Kind::Unbounded => false,
-            Kind::Included => match start {
-                Kind::Unbounded => false,
-                Kind::Included => false,
-                Kind::Excluded => keys::equal(end_key, other_start_key),
-            },
-            Kind::Excluded => match start {
-                Kind::Unbounded => false,
-                Kind::Included => keys::equal(end_key, other_start_key),
-                Kind::Excluded => false,
-            },
+        match (self.end, other.start) {
+            (Kind::Included, Kind::Excluded) | (Kind::Excluded, Kind::Included) => {
+                keys::equal(end_key, other_start_key)
+            }
+            _ => false,
         }
     }
 
     pub fn non_empty(self, start_key: &[u8], end_key: &[u8]) -> bool
         ensures { result ≡ not_empty (range_of self start_key.now end_key.now) }
     {
-        let start = self.start;
-        let end = self.end;
-        match start {
-            Kind::Unbounded => true,
-            Kind::Included => match end {
-                Kind::Unbounded => true,
-                Kind::Included => keys::compare(start_key, end_key) <= 0,
-                Kind::Excluded => keys::compare(start_key, end_key) < 0,
-            },
-            Kind::Excluded => match end {
-                Kind::Unbounded => true,
-                Kind::Included => keys::compare(start_key, end_key) < 0,
-                Kind::Excluded => keys::compare(start_key, end_key) < 0,
-            },
+        match (self.start, self.end) {
+            (Kind::Unbounded, _) | (_, Kind::Unbounded) => true,
+            (Kind::Included, Kind::Included) => keys::compare(start_key, end_key) <= 0,
+            _ => keys::compare(start_key, end_key) < 0,
         }
     }
 
@@ -198,8 +168,6 @@ impl ComparableRange {
     pub fn contains(self, start_key: &[u8], end_key: &[u8], key: &[u8]) -> bool
         ensures { result ≡ holds (range_of self start_key.now end_key.now) key.now }
     {
-        let start = self.start;
-        let end = self.end;
-        start.admits_from(start_key, key) && end.admits_to(end_key, key)
+        self.start.admits_from(start_key, key) && self.end.admits_to(end_key, key)
     }
 }

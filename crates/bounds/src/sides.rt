@@ -1,7 +1,7 @@
 // Sides: which of two ranges gives a start or an end, and what intersect and union answer by it.
-ghost use Rattle.std.specs.Prelude.{◌≡◌, cond};
+ghost use Rattle.std.specs.Prelude.{◌≡◌};
 ghost use Rattle.kinds.specs.Bounds.{bound};
-ghost use Rattle.bounds.specs.Sides.{sided, other_side, max_start, min_end, max_end, is_given, swap_sides};
+ghost use Rattle.bounds.specs.Sides.{sided, other_side, max_start, min_end, max_end, swap_sides};
 
 use kinds::kind::Kind;
 
@@ -22,18 +22,9 @@ impl Side {
         }
     }
 
-    pub fn kind(self, first: Kind, second: Kind) -> Kind
+    // One of two by the side that it comes from; a key is handed back as a part of whichever slice it came in.
+    pub fn pick<T: Copy>(self, first: T, second: T) -> T
         ensures { result ≡ sided self first second }
-    {
-        match self {
-            Side::First => first,
-            Side::Second => second,
-        }
-    }
-
-    // The key is handed back as a part of whichever slice it came in.
-    pub fn key<'a>(self, first: &'a [u8], second: &'a [u8]) -> &'a [u8]
-        ensures { result.now ≡ sided self first.now second.now }
     {
         match self {
             Side::First => first,
@@ -72,42 +63,21 @@ pub fn max_end(a: Kind, a_key: &[u8], b: Kind, b_key: &[u8]) -> Side
     Side::Second
 }
 
-// The answer of intersect and union: which of the two ranges gives the start and which the end.
+// What intersect and union answer: which of the two ranges gives the start and which the end.
 #[derive(Clone, Copy)]
-pub enum Combined {
-    Of { start: Side, end: Side },
-    Nothing,
+pub struct Sides {
+    pub start: Side,
+    pub end: Side,
 }
 
-impl Combined {
-    pub fn when(given: bool, start: Side, end: Side) -> Self
-        ensures { result ≡ cond given (Combined.Of start end) Combined.Nothing }
-    {
-        if given {
-            return Combined::Of { start, end };
-        }
-        Combined::Nothing
-    }
-
-    pub fn is_given(self) -> bool
-        ensures { result ≡ is_given self }
-    {
-        match self {
-            Combined::Of { start: _, end: _ } => true,
-            Combined::Nothing => false,
-        }
-    }
-
+impl Sides {
     // The same answer with the two ranges named the other way round.
     pub fn swapped(self) -> Self
         ensures { result ≡ swap_sides self }
     {
-        match self {
-            Combined::Of { start, end } => Combined::Of {
-                start: start.other(),
-                end: end.other(),
-            },
-            Combined::Nothing => Combined::Nothing,
+        Sides {
+            start: self.start.other(),
+            end: self.end.other(),
         }
     }
 }

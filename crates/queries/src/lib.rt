@@ -4,46 +4,37 @@
 ghost use Rattle.machine.specs.Calls.{on, check, minimum};
 ghost use Rattle.layout.specs.Rooms.{Served};
 ghost use Rattle.room.specs.Views.{Seen};
+ghost use Rattle.answers.specs.Says.{status_of, value_of};
 
-use answers::Answer;
+use answers::{Outcome, Refusal};
 use layout::{ENTRIES, ID};
-use places::finds::{Place, find_txn, least_start};
+use places::finds::{find_txn, least_start};
 use room::View;
 use search::conflicts;
 
 // Says whether an active transaction conflicts with an entry.
-pub fn check(room: &[u8], v: View, id: &[u8]) -> Answer
+pub fn check(room: &[u8], v: View, id: &[u8]) -> Result<Outcome, Refusal>
     requires { Seen room.now v }
-    ensures { Served room.now (on (check id.now)) result.status result.value room.now }
+    ensures { Served room.now (on (check id.now)) (status_of result) (value_of result) room.now }
 {
     if id.len() != ID {
-        return Answer::MALFORMED;
+        return Err(Refusal::Malformed);
     }
-    let middle = v.middle;
-    let active = v.active;
-    let entries = v.entries;
-    match find_txn(room, middle, active, id) {
-        Place::Before(_) => Answer::absent(0),
-        Place::Here { at, end: _ } => {
-            if conflicts(room, ENTRIES, entries, at) {
-                return Answer::done(1);
-            }
-            Answer::done(0)
-        }
-    }
+    let Ok(txn) = find_txn(room, v.middle, v.active, id) else {
+        return Ok(Outcome::Absent(0));
+    };
+    let verdict = conflicts(room, ENTRIES, v.entries, txn.from);
+    Ok(Outcome::Done(u64::from(verdict)))
 }
 
 // The smallest start of an active transaction.
-pub fn minimum(room: &[u8], v: View) -> Answer
+pub fn minimum(room: &[u8], v: View) -> Result<Outcome, Refusal>
     requires { Seen room.now v }
-    ensures { Served room.now (on minimum) result.status result.value room.now }
+    ensures { Served room.now (on minimum) (status_of result) (value_of result) room.now }
 {
-    let middle = v.middle;
-    let active = v.active;
-    let last = v.last;
-    if active == 0 {
-        return Answer::absent(0);
+    if v.active == 0 {
+        return Ok(Outcome::Absent(0));
     }
-    let value = least_start(room, middle, active, last);
-    Answer::done(value)
+    let value = least_start(room, v.middle, v.active, v.last);
+    Ok(Outcome::Done(value))
 }

@@ -1,24 +1,18 @@
 -- Making keys: document 01's statuses for it, and how a made key comes back.
-use Rattle.std.specs.Prelude.{ℕ, ◌-◌, ◌≤◌, ◌≡◌, Bool, true, false, cond, List, [], ◌++◌, ltb, length, replicate}
+use Rattle.std.specs.Prelude.{ℕ, ◌-◌, ◌≤◌, ◌≡◌, Bool, false, cond, List, [], ◌++◌, ltb, length, replicate, Result, Ok, Err}
 use Rattle.keys.specs.Limit.{key_limit}
 use Rattle.kinds.specs.declared.kind.Kind.{Kind}
 use Rattle.kinds.specs.declared.kind.Kind.TheVariants.{Unbounded, Included, Excluded}
 use Rattle.kinds.specs.Bounds.{Bound, unbounded, included, excluded}
-use Rattle.ranges.specs.declared.made.Making.{Making}
-use Rattle.ranges.specs.declared.made.Making.TheVariants.{Done, LongKey, EmptyRange}
+use Rattle.ranges.specs.declared.made.RangeError.{RangeError}
+use Rattle.ranges.specs.declared.made.RangeError.TheVariants.{LongKey, EmptyRange}
 use Rattle.ranges.specs.declared.made.MadeBound.{MadeBound}
-use Rattle.ranges.specs.declared.made.Made.{Made}
 
 -- document 01's number of each answer
-abbrev pub status : Making → ℕ
-status Done = 0
-status LongKey = 4
-status EmptyRange = 5
-
-abbrev pub is_done : Making → Bool
-is_done Done = true
-is_done LongKey = false
-is_done EmptyRange = false
+abbrev pub status : {A : Type 0} → Result A RangeError → ℕ
+status (Ok a) = 0
+status (Err LongKey) = 4
+status (Err EmptyRange) = 5
 
 abbrev pub too_long : Bound → Bool
 too_long unbounded = false
@@ -44,12 +38,9 @@ unfoldable pub made_of : Bound → MadeBound
 made_of b = record { kind = kind_of b; len = length (key_of b); bytes = padded (key_of b) }
 
 -- a made bound's array has its whole length, and its key lies in it
-pub record Sized (m : Made) : Type 0 where
-  pub len : m.bound.len ≤ key_limit
-  pub bytes : length m.bound.bytes ≡ key_limit
+pub record Sized (m : MadeBound) : Type 0 where
+  pub len : m.len ≤ key_limit
+  pub bytes : length m.bytes ≡ key_limit
 
-abbrev pub made : Making → Bound → Made
-made m b = record { making = m; bound = made_of b }
-
-abbrev pub made_bound : Bound → Made
-made_bound b = cond (too_long b) (made LongKey unbounded) (made Done b)
+abbrev pub made_bound : Bound → Result MadeBound RangeError
+made_bound b = cond (too_long b) (Err LongKey) (Ok (made_of b))

@@ -1,9 +1,11 @@
 // A whole record served on a room.
 ghost use Rattle.machine.specs.Calls.{on};
 ghost use Rattle.layout.specs.Rooms.{Served};
+ghost use Rattle.answers.specs.Says.{status_of, value_of};
 ghost use Rattle.script.specs.Script.{keys_of, called, refused_call, IdEnds};
 
-use answers::Answer;
+use crate::records::Tag;
+use answers::{Outcome, Refusal};
 use codec::numbers::read_eight;
 use layout::{ID, NUMBER};
 use machine::Which;
@@ -13,83 +15,82 @@ use manager::transaction_manager::{
     track_write_keys,
 };
 
-pub fn serve_record(room: &mut [u8], tag: u8, payload: &[u8]) -> Answer
-    ensures { Served room.old (called tag payload.now) result.status result.value room.new }
+pub fn serve_record(room: &mut [u8], tag: u8, payload: &[u8]) -> Result<Outcome, Refusal>
+    ensures { Served room.old (called tag payload.now) (status_of result) (value_of result) room.new }
 {
+    let Ok(tag) = Tag::try_from(tag) else {
+        return refuse(room);
+    };
     match tag {
-        0x01 => new_transaction(room, payload),
-        0x02 => serve_keys(room, Which::Writes, payload),
-        0x03 => serve_keys(room, Which::Reads, payload),
-        0x04 => serve_range(room, payload),
-        0x05 => check_has_conflict(room, payload),
-        0x06 => serve_commit(room, payload),
-        0x07 => serve_batch(room, payload),
-        0x08 => drop_txn(room, payload),
-        0x09 => serve_minimum(room, payload),
-        _ => refuse(room, payload),
+        Tag::Begin => new_transaction(room, payload),
+        Tag::Writes => serve_keys(room, Which::Writes, payload),
+        Tag::Reads => serve_keys(room, Which::Reads, payload),
+        Tag::Range => serve_range(room, payload),
+        Tag::Check => check_has_conflict(room, payload),
+        Tag::Commit => serve_commit(room, payload),
+        Tag::Batch => serve_batch(room, payload),
+        Tag::Drop => drop_txn(room, payload),
+        Tag::Minimum => serve_minimum(room, payload),
     }
 }
 
 // Status 2, or 7 where the room holds no state: an id of no bytes is refused in every state.
-fn refuse(room: &[u8], payload: &[u8]) -> Answer
-    ensures { Served room.now refused_call result.status result.value room.now }
+fn refuse(room: &[u8]) -> Result<Outcome, Refusal>
+    ensures { Served room.now refused_call (status_of result) (value_of result) room.now }
 {
-    check_has_conflict(room, &payload[0..0])
+    check_has_conflict(room, b"")
 }
 
 // Where a payload's id ends, or the payload where it has fewer bytes than an id.
 fn id_end(payload: &[u8]) -> usize
     ensures { IdEnds payload.now result }
 {
-    if payload.len() < ID {
-        return payload.len();
-    }
-    ID
+    payload.len().min(ID)
 }
 
 // The keys of one of the two sets.
-fn serve_keys(room: &mut [u8], which: Which, payload: &[u8]) -> Answer
-    ensures { Served room.old (on (keys_of which payload.now)) result.status result.value room.new }
+fn serve_keys(room: &mut [u8], which: Which, payload: &[u8]) -> Result<Outcome, Refusal>
+    ensures { Served room.old (on (keys_of which payload.now)) (status_of result) (value_of result) room.new }
 {
-    let end = id_end(payload);
+    let (id, keys) = payload.split_at(id_end(payload));
     match which {
-        Which::Writes => track_write_keys(room, &payload[0..end], &payload[end..]),
-        Which::Reads => track_read_keys(room, &payload[0..end], &payload[end..]),
+        Which::Writes => track_write_keys(room, id, keys),
+        Which::Reads => track_read_keys(room, id, keys),
     }
 }
 
-fn serve_range(room: &mut [u8], payload: &[u8]) -> Answer
-    ensures { Served room.old (called 4 payload.now) result.status result.value room.new }
+fn serve_range(room: &mut [u8], payload: &[u8]) -> Result<Outcome, Refusal>
+    ensures { Served room.old (called 4 payload.now) (status_of result) (value_of result) room.new }
 {
-    let end = id_end(payload);
-    track_read_range(room, &payload[0..end], &payload[end..])
+    let (id, range) = payload.split_at(id_end(payload));
+    track_read_range(room, id, range)
 }
 
-fn serve_commit(room: &mut [u8], payload: &[u8]) -> Answer
-    ensures { Served room.old (called 6 payload.now) result.status result.value room.new }
+fn serve_commit(room: &mut [u8], payload: &[u8]) -> Result<Outcome, Refusal>
+    ensures { Served room.old (called 6 payload.now) (status_of result) (value_of result) room.new }
 {
     if payload.len() != ID + NUMBER {
-        return refuse(room, payload);
+        return refuse(room);
     }
     let seq = read_eight(payload, ID);
     track_recent_committed_txn(room, &payload[0..ID], seq)
 }
 
-fn serve_batch(room: &mut [u8], payload: &[u8]) -> Answer
-    ensures { Served room.old (called 7 payload.now) result.status result.value room.new }
+fn serve_batch(room: &mut [u8], payload: &[u8]) -> Result<Outcome, Refusal>
+    ensures { Served room.old (called 7 payload.now) (status_of result) (value_of result) room.new }
 {
     if payload.len() < NUMBER {
-        return refuse(room, payload);
+        return refuse(room);
     }
     let seq = read_eight(payload, 0);
     track_recent_committed_write_batch(room, &payload[NUMBER..], seq)
 }
 
-fn serve_minimum(room: &[u8], payload: &[u8]) -> Answer
-    ensures { Served room.now (called 9 payload.now) result.status result.value room.now }
+fn serve_minimum(room: &[u8], payload: &[u8]) -> Result<Outcome, Refusal>
+    ensures { Served room.now (called 9 payload.now) (status_of result) (value_of result) room.now }
 {
-    if 0 < payload.len() {
-        return refuse(room, payload);
+    if !payload.is_empty() {
+        return refuse(room);
     }
     min_active_seq(room)
 }

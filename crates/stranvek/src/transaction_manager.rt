@@ -22,49 +22,49 @@ pub extern "C" fn stranvek_room_size() -> usize
 pub extern "C" fn stranvek_new(room: &mut [u8], last: u64) -> Answer
     ensures { Served room.old (fresh last) result.status result.value room.new }
 {
-    transaction_manager::new(room, last)
+    Answer::from(transaction_manager::new(room, last))
 }
 
 #[unsafe(no_mangle)]
 pub extern "C" fn stranvek_new_transaction(room: &mut [u8], id: &[u8]) -> Answer
     ensures { Served room.old (on (begin id.now)) result.status result.value room.new }
 {
-    transaction_manager::new_transaction(room, id)
+    Answer::from(transaction_manager::new_transaction(room, id))
 }
 
 #[unsafe(no_mangle)]
 pub extern "C" fn stranvek_drop_txn(room: &mut [u8], id: &[u8]) -> Answer
     ensures { Served room.old (on (drop_txn id.now)) result.status result.value room.new }
 {
-    transaction_manager::drop_txn(room, id)
+    Answer::from(transaction_manager::drop_txn(room, id))
 }
 
 #[unsafe(no_mangle)]
 pub extern "C" fn stranvek_track_write_keys(room: &mut [u8], id: &[u8], keys: &[u8]) -> Answer
     ensures { Served room.old (on (track_keys Writes id.now keys.now)) result.status result.value room.new }
 {
-    transaction_manager::track_write_keys(room, id, keys)
+    Answer::from(transaction_manager::track_write_keys(room, id, keys))
 }
 
 #[unsafe(no_mangle)]
 pub extern "C" fn stranvek_track_read_keys(room: &mut [u8], id: &[u8], keys: &[u8]) -> Answer
     ensures { Served room.old (on (track_keys Reads id.now keys.now)) result.status result.value room.new }
 {
-    transaction_manager::track_read_keys(room, id, keys)
+    Answer::from(transaction_manager::track_read_keys(room, id, keys))
 }
 
 #[unsafe(no_mangle)]
 pub extern "C" fn stranvek_track_read_range(room: &mut [u8], id: &[u8], range: &[u8]) -> Answer
     ensures { Served room.old (on (track_range id.now range.now)) result.status result.value room.new }
 {
-    transaction_manager::track_read_range(room, id, range)
+    Answer::from(transaction_manager::track_read_range(room, id, range))
 }
 
 #[unsafe(no_mangle)]
 pub extern "C" fn stranvek_check_has_conflict(room: &[u8], id: &[u8]) -> Answer
     ensures { Served room.now (on (check id.now)) result.status result.value room.now }
 {
-    transaction_manager::check_has_conflict(room, id)
+    Answer::from(transaction_manager::check_has_conflict(room, id))
 }
 
 #[unsafe(no_mangle)]
@@ -75,7 +75,7 @@ pub extern "C" fn stranvek_track_recent_committed_txn(
 ) -> Answer
     ensures { Served room.old (on (commit id.now seq)) result.status result.value room.new }
 {
-    transaction_manager::track_recent_committed_txn(room, id, seq)
+    Answer::from(transaction_manager::track_recent_committed_txn(room, id, seq))
 }
 
 #[unsafe(no_mangle)]
@@ -86,12 +86,12 @@ pub extern "C" fn stranvek_track_recent_committed_write_batch(
 ) -> Answer
     ensures { Served room.old (on (batch seq keys.now)) result.status result.value room.new }
 {
-    transaction_manager::track_recent_committed_write_batch(room, keys, seq)
+    Answer::from(transaction_manager::track_recent_committed_write_batch(room, keys, seq))
 }
 
 #[unsafe(no_mangle)]
 pub extern "C" fn stranvek_min_active_seq(room: &[u8]) -> Answer
     ensures { Served room.now (on minimum) result.status result.value room.now }
 {
-    transaction_manager::min_active_seq(room)
+    Answer::from(transaction_manager::min_active_seq(room))
 }
