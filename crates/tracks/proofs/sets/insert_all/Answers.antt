@@ -19,20 +19,17 @@ returns-in_err-space c = full c.loop-key.invariant c.next_key.ensures c.in-Some.
 pub splice-requires : goal.splice-requires
 splice-requires c = can_splice c.loop-key.invariant c.next_key.ensures c.in-Some.ensures c.in-Some-find_place.ensures c.in_ok-space.ensures
 
-pub overflow_add-set-in-Some-find_place-2 : goal.overflow_add-set-in-Some-find_place-2
-overflow_add-set-in-Some-find_place-2 c = omega (arith, end_inside c.loop-key.invariant)
+pub overflow_add-set-in-Some-2 : goal.overflow_add-set-in-Some-2
+overflow_add-set-in-Some-2 c = omega (arith, end_inside c.loop-key.invariant)
 
-pub loop-key-smaller-in_ok-space : goal.loop-key-smaller-in_ok-space
-loop-key-smaller-in_ok-space c = turn_less c.loop-key.invariant c.next_key.ensures c.in-Some.ensures
-
-pub loop-key-preserved-in_ok-space : goal.loop-key-preserved-in_ok-space
-loop-key-preserved-in_ok-space c = add_put c.loop-key.invariant c.next_key.ensures c.in-Some.ensures c.in-Some-find_place.ensures c.in_ok-space.ensures (λ i. omega (arith, c.type_inv.list i)) c.splice.ensures
+pub loop-key-preserved : goal.loop-key-preserved
+loop-key-preserved c = add_put c.loop-key.invariant c.next_key.ensures c.in-Some.ensures c.in-Some-find_place.ensures c.in_ok-space.ensures (λ i. omega (arith, c.type_inv.list i)) c.splice.ensures
 
 pub loop-key-smaller : goal.loop-key-smaller
 loop-key-smaller c = turn_less c.loop-key.invariant c.next_key.ensures c.in-Some.ensures
 
-pub loop-key-preserved : goal.loop-key-preserved
-loop-key-preserved c = add_there c.loop-key.invariant c.next_key.ensures c.in-Some.ensures c.in_default-find_place.ensures
+pub loop-key-preserved-in_default-find_place : goal.loop-key-preserved-in_default-find_place
+loop-key-preserved-in_default-find_place c = add_there c.loop-key.invariant c.next_key.ensures c.in-Some.ensures c.in_default-find_place.ensures
 
 pub returns : goal.returns
 returns c = all_added c.loop-key.invariant c.next_key.ensures c.in_default.ensures
