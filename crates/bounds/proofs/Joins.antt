@@ -8,11 +8,11 @@ use Rattle.keys.specs.Order.{order, is_less, is_same, not_more}
 use Rattle.keys.proofs.OrderLaws.{less_is, not_more_trans, not_more_swap, less_not_more}
 use Rattle.bounds.specs.declared.sides.Side.{Side}
 use Rattle.bounds.specs.declared.sides.Side.TheVariants.{First, Second}
-use Rattle.bounds.specs.declared.sides.Combined.{Combined}
-use Rattle.bounds.specs.declared.sides.Combined.TheVariants.{Of, Nothing}
+use Rattle.bounds.specs.declared.sides.Sides.{Sides}
+use Rattle.std.specs.Prelude.{Option, Some, None, is_some, option_map}
 use Rattle.kinds.specs.Bounds.{Bound, start_order, end_order, start_admits, end_admits}
 use Rattle.bounds.specs.Ranges.{Range, holds, not_empty, taken, touches, range_order, intersect_of, join_of, union_of}
-use Rattle.bounds.specs.Sides.{sided, max_end, is_given, swap_sides}
+use Rattle.bounds.specs.Sides.{sided, max_end, sides, swap_sides}
 use Rattle.kinds.proofs.Cuts.{before, start_cut, end_cut, start_order_lem, end_order_lem, start_admits_lem, end_admits_lem, start_wider, end_wider}
 use Rattle.kinds.proofs.BoundOrder.{start_total, end_total, at_itself, by_more, either_way}
 use Rattle.bounds.proofs.PairCuts.{not_empty_lem, touching}
@@ -32,35 +32,35 @@ joint f g = taken First (max_end f.end g.end) f g
 
 -- "they intersect or touch"
 abbrev pub meets : Range → Range → Bool
-meets f g = is_given (intersect_of f g) || touches f g
+meets f g = is_some (intersect_of f g) || touches f g
 
-swapped_given : (c : Combined) → is_given (swap_sides c) ≡ is_given c
-swapped_given (Of s e) = refl
-swapped_given Nothing = refl
+swapped_given : (c : Option Sides) → is_some (option_map swap_sides c) ≡ is_some c
+swapped_given (Some p) = refl
+swapped_given None = refl
 
-swapped_sides : (a b : Range) (t : Bool) (m s e : Side) → swap_sides (cond t (Of First m) Nothing) ≡ Of s e → taken s e a b ≡ taken First m b a
+swapped_sides : (a b : Range) (t : Bool) (m s e : Side) → option_map swap_sides (cond t (Some (sides First m)) None) ≡ Some (sides s e) → taken s e a b ≡ taken First m b a
 swapped_sides a b true First s e h = given_sides a b true Second Second s e h
 swapped_sides a b true Second s e h = given_sides a b true Second First s e h
 swapped_sides a b false m s e h = cc
 
-join_given : (f g : Range) → is_given (join_of f g) ≡ meets f g
+join_given : (f g : Range) → is_some (join_of f g) ≡ meets f g
 unfolding join_of
 join_given f g = given_by (meets f g) First (max_end f.end g.end)
 
 module _ (a b : Range) where
-  union_is : (s e : Side) → union_of a b ≡ Of s e → taken s e a b ≡ joint (first a b) (second a b)
+  union_is : (s e : Side) → union_of a b ≡ Some (sides s e) → taken s e a b ≡ joint (first a b) (second a b)
   unfolding union_of join_of
   union_is s e = go (is_less (range_order a b))
     where
-      go : (t : Bool) → cond t (join_of a b) (swap_sides (join_of b a)) ≡ Of s e → taken s e a b ≡ joint (cond t a b) (cond t b a)
+      go : (t : Bool) → cond t (join_of a b) (option_map swap_sides (join_of b a)) ≡ Some (sides s e) → taken s e a b ≡ joint (cond t a b) (cond t b a)
       go true h = given_sides a b (meets a b) First (max_end a.end b.end) s e h
       go false h = swapped_sides a b (meets b a) (max_end b.end a.end) s e h
 
-  union_meets : is_given (union_of a b) ≡ meets (first a b) (second a b)
+  union_meets : is_some (union_of a b) ≡ meets (first a b) (second a b)
   unfolding union_of
   union_meets = go (is_less (range_order a b))
     where
-      go : (t : Bool) → is_given (cond t (join_of a b) (swap_sides (join_of b a))) ≡ meets (cond t a b) (cond t b a)
+      go : (t : Bool) → is_some (cond t (join_of a b) (option_map swap_sides (join_of b a))) ≡ meets (cond t a b) (cond t b a)
       go true = join_given a b
       go false = swapped_given (join_of b a) ∙ join_given b a
 
@@ -105,9 +105,9 @@ module _ (f g : Range) where
       go gt e = refl
 
   reaches : meets f g ≡ true → Reaches
-  reaches = go (is_given (intersect_of f g)) refl
+  reaches = go (is_some (intersect_of f g)) refl
     where
-      go : (t : Bool) → is_given (intersect_of f g) ≡ t → (t || touches f g) ≡ true → Reaches
+      go : (t : Bool) → is_some (intersect_of f g) ≡ t → (t || touches f g) ≡ true → Reaches
       go true e d = intersect_reaches (sym (intersect_given f g) ∙ e)
       go false e d = touch_reaches d
 
@@ -155,17 +155,17 @@ module _ (a b : Range) where
   both_held false k = or_comm (holds b k) (holds a k)
 
   -- "A key lies in it exactly when it lies in either."
-  pub union_holds : (s e : Side) (k : List ℕ) → union_of a b ≡ Of s e → holds (taken s e a b) k ≡ (holds a k || holds b k)
+  pub union_holds : (s e : Side) (k : List ℕ) → union_of a b ≡ Some (sides s e) → holds (taken s e a b) k ≡ (holds a k || holds b k)
   union_holds s e k h =
       ap (λ r. holds r k) (union_is a b s e h)
-      ∙ joint_holds k (first a b) (second a b) (first_starts a b) (reaches (first a b) (second a b) (sym (union_meets a b) ∙ ap is_given h))
+      ∙ joint_holds k (first a b) (second a b) (first_starts a b) (reaches (first a b) (second a b) (sym (union_meets a b) ∙ ap is_some h))
       ∙ both_held (is_less (range_order a b)) k
 
   -- "given exactly if they intersect or touch"
-  pub union_given : is_given (union_of a b) ≡ (is_given (intersect_of a b) || touches (first a b) (second a b))
+  pub union_given : is_some (union_of a b) ≡ (is_some (intersect_of a b) || touches (first a b) (second a b))
   union_given = union_meets a b ∙ ap (λ t. t || touches (first a b) (second a b)) (go (is_less (range_order a b)))
     where
-      go : (t : Bool) → is_given (intersect_of (cond t a b) (cond t b a)) ≡ is_given (intersect_of a b)
+      go : (t : Bool) → is_some (intersect_of (cond t a b) (cond t b a)) ≡ is_some (intersect_of a b)
       go true = refl
       go false = intersect_given b a ∙ ap not_empty (shared_either b a) ∙ sym (intersect_given a b)
 
@@ -182,7 +182,7 @@ covers_second : (f g : Range) → not_more (start_order f.start g.start) ≡ tru
 covers_second f g h = record { start_before = h; end_after = greater_second end_total f.end g.end }
 
 module _ (a b : Range) where
-  pub union_bounds : (s e : Side) → union_of a b ≡ Of s e → Covers (taken s e a b) a × Covers (taken s e a b) b
+  pub union_bounds : (s e : Side) → union_of a b ≡ Some (sides s e) → Covers (taken s e a b) a × Covers (taken s e a b) b
   union_bounds s e h = rw (union_is a b s e h) (go (is_less (range_order a b)) (first_starts a b))
     where
       go : (t : Bool) → not_more (start_order (cond t a b).start (cond t b a).start) ≡ true → Covers (joint (cond t a b) (cond t b a)) a × Covers (joint (cond t a b) (cond t b a)) b
@@ -195,8 +195,8 @@ module _ (a b : Range) where
   seconds : second a b ≡ second b a
   seconds = either_way range_total a b (λ o x y. cond (is_less o) y x) (λ x y. refl)
 
-  pub union_either_way : (s e s' e' : Side) → union_of a b ≡ Of s e → union_of b a ≡ Of s' e' → taken s e a b ≡ taken s' e' b a
+  pub union_either_way : (s e s' e' : Side) → union_of a b ≡ Some (sides s e) → union_of b a ≡ Some (sides s' e') → taken s e a b ≡ taken s' e' b a
   union_either_way s e s' e' h k = union_is a b s e h ∙ (λ i. joint (firsts i) (seconds i)) ∙ sym (union_is b a s' e' k)
 
-  pub union_given_either_way : is_given (union_of a b) ≡ is_given (union_of b a)
+  pub union_given_either_way : is_some (union_of a b) ≡ is_some (union_of b a)
   union_given_either_way = union_meets a b ∙ (λ i. meets (firsts i) (seconds i)) ∙ sym (union_meets b a)

@@ -7,10 +7,11 @@ use Rattle.keys.specs.Order.{is_more}
 use Rattle.keys.proofs.OrderLaws.{not_more_less}
 use Rattle.bounds.specs.declared.sides.Side.{Side}
 use Rattle.bounds.specs.declared.sides.Side.TheVariants.{First, Second}
-use Rattle.bounds.specs.declared.sides.Combined.TheVariants.{Of, Nothing}
+use Rattle.std.specs.Prelude.{Some, None, is_some}
+use Rattle.std.proofs.lemmas.Option.{same_Some}
 use Rattle.kinds.specs.Bounds.{Bound, start_admits, end_admits}
 use Rattle.bounds.specs.Ranges.{Range, range, holds, not_empty, taken, intersect_of}
-use Rattle.bounds.specs.Sides.{sided, max_start, min_end, is_given}
+use Rattle.bounds.specs.Sides.{sided, max_start, min_end, sides}
 use Rattle.kinds.proofs.Cuts.{before, start_cut, end_cut, start_admits_lem, end_admits_lem, start_wider, end_wider}
 use Rattle.kinds.proofs.BoundOrder.{start_total, end_total, by_more, either_way}
 use Rattle.bounds.proofs.PairCuts.{not_empty_lem}
@@ -61,11 +62,11 @@ shared_either a b =
     let q = either_way end_total a.end b.end (λ o x y. sided (cond (is_more o) Second First) x y) (λ x y. refl) in
     λ i. range (p i) (q i)
 
-pub given_by : (t : Bool) (s e : Side) → is_given (cond t (Of s e) Nothing) ≡ t
+pub given_by : (t : Bool) (s e : Side) → is_some (cond t (Some (sides s e)) None) ≡ t
 given_by true s e = refl
 given_by false s e = refl
 
-pub intersect_given : (a b : Range) → is_given (intersect_of a b) ≡ not_empty (shared a b)
+pub intersect_given : (a b : Range) → is_some (intersect_of a b) ≡ not_empty (shared a b)
 unfolding intersect_of
 intersect_given a b = given_by (not_empty (shared a b)) (max_start a.start b.start) (min_end a.end b.end)
 
@@ -75,14 +76,13 @@ shared_holds a b k =
     ∙ regroup (start_admits a.start k) (start_admits b.start k) (end_admits a.end k) (end_admits b.end k)
 
 module _ (a b : Range) where
-  pub given_sides : (t : Bool) (s e s' e' : Side) → cond t (Of s e) Nothing ≡ Of s' e' → taken s' e' a b ≡ taken s e a b
+  pub given_sides : (t : Bool) (s e s' e' : Side) → cond t (Some (sides s e)) None ≡ Some (sides s' e') → taken s' e' a b ≡ taken s e a b
   given_sides true s e s' e' h =
-      let p : s' ≡ s = cc in
-      let q : e' ≡ e = cc in
-      λ i. taken (p i) (q i) a b
+      let p = sym (same_Some (sides s e) (sides s' e') h) in
+      λ i. taken (p i).start (p i).end a b
   given_sides false s e s' e' h = cc
 
-  pub intersect_holds : (s e : Side) (k : List ℕ) → intersect_of a b ≡ Of s e → holds (taken s e a b) k ≡ (holds a k && holds b k)
+  pub intersect_holds : (s e : Side) (k : List ℕ) → intersect_of a b ≡ Some (sides s e) → holds (taken s e a b) k ≡ (holds a k && holds b k)
   unfolding intersect_of
   intersect_holds s e k h = ap (λ r. holds r k) (given_sides (not_empty (shared a b)) _ _ s e h) ∙ shared_holds a b k
 
@@ -95,10 +95,10 @@ empty_holds_nothing r k h = go (start_admits r.start k) refl (end_admits r.end k
     go true d false e = refl
     go false d q e = refl
 
-pub intersect_nothing : (a b : Range) (k : List ℕ) → intersect_of a b ≡ Nothing → (holds a k && holds b k) ≡ false
+pub intersect_nothing : (a b : Range) (k : List ℕ) → intersect_of a b ≡ None → (holds a k && holds b k) ≡ false
 unfolding intersect_of
 intersect_nothing a b k h = sym (shared_holds a b k) ∙ empty_holds_nothing (shared a b) k (go (not_empty (shared a b)) _ _ h)
   where
-    go : (t : Bool) (s e : Side) → cond t (Of s e) Nothing ≡ Nothing → t ≡ false
+    go : (t : Bool) (s e : Side) → cond t (Some (sides s e)) None ≡ None → t ≡ false
     go true s e d = cc
     go false s e d = refl

@@ -79,8 +79,10 @@ impl ComparableRange {
     ) -> &'a [u8]
         ensures { result.now ≡ sided (max_start (bound self.start start_key.now) (bound other.start other_start_key.now)) start_key.now other_start_key.now }
     {
-        max_start(self.start, start_key, other.start, other_start_key)
-            .pick(start_key, other_start_key)
+        max_start(self.start, start_key, other.start, other_start_key).pick(
+            start_key,
+            other_start_key,
+        )
     }
 
     // The lesser end's key, likewise.
@@ -124,17 +126,15 @@ impl ComparableRange {
     ) -> Option<Sides>
         ensures { result ≡ join_of (range_of self start_key.now end_key.now) (range_of other other_start_key.now other_end_key.now) }
     {
+        let end = max_end(self.end, end_key, other.end, other_end_key);
         let meets = self
             .intersect(start_key, end_key, other, other_start_key, other_end_key)
-            .is_some();
-        if meets || self.are_adjacent(end_key, other, other_start_key) {
-            let end = max_end(self.end, end_key, other.end, other_end_key);
-            return Some(Sides {
-                start: Side::First,
-                end,
-            });
-        }
-        None
+            .is_some()
+            || self.are_adjacent(end_key, other, other_start_key);
+        meets.then_some(Sides {
+            start: Side::First,
+            end,
+        })
     }
 
     // Whether this range's end and the other's start hold equal keys, one included and one excluded.

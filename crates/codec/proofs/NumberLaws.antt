@@ -1,13 +1,11 @@
 -- The number at a place, for every width: what is read there, and what is written.
-use Prim.Native.Nat.{ℕ, zero, suc, ◌+◌, ◌*◌, ◌/◌, ◌%◌, ◌^◌, ◌≤◌, ◌<◌}
-use native.Mathlib.Nat.{add-zero, add-suc, div-div-eq-div-mul, pow-succ'}
-use native.Mathlib.Numerals.{add-one}
-use mathlib.Core.Path.{◌≡◌, refl, sym, ap, ap₂, ◌∙◌}
-use mathlib.Core.List.{List, [], ◌∷◌, ◌++◌}
-use native.Mathlib.Omega.{arith}
-use borrow.Author.Tests.{lt-ltb}
-use lib.ListN.{length, drop, get_or, set, length-append}
-use lib.Seq.{drop-cons, paste, sets, sets-eq, take_all}
+use Rattle.std.proofs.Common.{ℕ, zero, suc, ◌+◌, ◌-◌, ◌*◌, ◌/◌, ◌%◌, ◌^◌, ◌≤◌, ◌<◌, ◌≡◌, List, [], ◌∷◌, ◌++◌, length, take, drop, replicate, get_or, refl, sym, ap, ◌∙◌, arith, add-one, append-nil, drop-cons, length-append, lt-ltb, take_all}
+use mathlib.Core.Path.{ap₂}
+use Rattle.std.proofs.Math.Nat.{add-zero, div-div-eq-div-mul, div-eq_of_lt, pow-le-pow_right, pow-succ'}
+use Rattle.std.proofs.lemmas.List.{drop-replicate, drop_all, length-replicate, take-replicate, take_at}
+use Rattle.std.proofs.lemmas.Nat.{from_be_bytes-to_be_bytes_8}
+use Rattle.std.specs.Int.{byte_at, bytes_high_first, from_be_bytes, w64}
+use borrow.Rule.Slice.PartMut.{put_mid}
 use Rattle.codec.specs.Codec.{item, read_number, write_number}
 use Rattle.codec.specs.Formats.{number}
 use Rattle.codec.specs.Stands.{Stands}
@@ -44,51 +42,57 @@ unfolding number write_number
 length_number zero n = refl
 length_number (suc k) n = length-append (write_number k (n / 256)) (n % 256 ∷ []) ∙ rw (length_number k (n / 256)) (add-one k)
 
--- the lowest k digits of a number, the highest first, each by one division as the code has them
-abbrev pub digits : ℕ → ℕ → List ℕ
-digits zero n = []
-digits (suc zero) n = n % 256 ∷ []
-digits (suc (suc k)) n = n / 256 ^ suc k % 256 ∷ digits (suc k) n
+-- ---- the bytes of a number as std writes them
 
-digits_snoc : (k n : ℕ) → digits (suc k) (n / 256) ++ (n % 256 ∷ []) ≡ digits (suc (suc k)) n
-digits_snoc zero n = refl
-digits_snoc (suc k) n =
-    ap₂ (λ (d : ℕ) (l : List ℕ). d % 256 ∷ l)
-    (div-div-eq-div-mul n 256 (256 ^ suc k) ∙ ap (λ (m : ℕ). n / m) (sym (pow-succ' 256 (suc k))))
-    (digits_snoc k n)
+byte_of_quotient : (k n : ℕ) → byte_at k (n / 256) ≡ byte_at (suc k) n
+byte_of_quotient zero n = refl
+byte_of_quotient (suc k) n = ap (λ (m : ℕ). m % 256) (div-div-eq-div-mul n 256 (256 ^ suc k) ∙ ap (λ (m : ℕ). n / m) (sym (pow-succ' 256 (suc k))))
 
-digits_written : (k n : ℕ) → write_number k n ≡ digits k n
+bytes_snoc : (k n : ℕ) → bytes_high_first k (n / 256) ++ (n % 256 ∷ []) ≡ bytes_high_first (suc k) n
+bytes_snoc zero n = refl
+bytes_snoc (suc k) n = ap₂ (λ (b : ℕ) (l : List ℕ). b ∷ l) (byte_of_quotient k n) (bytes_snoc k n)
+
+bytes_written : (k n : ℕ) → write_number k n ≡ bytes_high_first k n
 unfolding write_number
-digits_written zero n = refl
-digits_written (suc zero) n = refl
-digits_written (suc (suc k)) n = rw (digits_written (suc k) (n / 256)) (digits_snoc k n)
+bytes_written zero n = refl
+bytes_written (suc k) n = rw (bytes_written k (n / 256)) (bytes_snoc k n)
 
--- stores one after the other from a place on, the i-th next
-abbrev stores_from : List ℕ → ℕ → ℕ → List ℕ → List ℕ
-stores_from l at i [] = l
-stores_from l at i (v ∷ vs) = stores_from (set l (at + i) v) at (suc i) vs
+last_bytes : (k n m x : ℕ) → m ≡ k + n → drop k (bytes_high_first m x) ≡ bytes_high_first n x
+last_bytes zero n m x e = let f : m ≡ n = omega arith in rw f
+last_bytes (suc k) n zero x e = absurd (omega arith)
+last_bytes (suc k) n (suc m) x e = last_bytes k n m x (omega arith)
 
-abbrev pub stores : List ℕ → ℕ → List ℕ → List ℕ
-stores l at [] = l
-stores l at (v ∷ vs) = stores_from (set l at v) at 1 vs
+byte_zero : (k x : ℕ) → x < 256 ^ k → byte_at k x ≡ 0
+byte_zero zero x h = omega arith
+byte_zero (suc k) x h = let e : x / 256 ^ suc k ≡ 0 = div-eq_of_lt h in rw e
 
-stores_sets : (vs l : List ℕ) (at i : ℕ) → stores_from l at i vs ≡ sets l (at + i) vs
-stores_sets [] l at i = refl
-stores_sets (v ∷ vs) l at i = stores_sets vs (set l (at + i) v) at (suc i) ∙ ap (λ (j : ℕ). sets (set l (at + i) v) j vs) (add-suc at i)
+zeros_first : (k n m x : ℕ) → m ≡ k + n → x < 256 ^ n → replicate k 0 ++ bytes_high_first n x ≡ bytes_high_first m x
+zeros_first zero n m x e h = let f : m ≡ n = omega arith in rw f
+zeros_first (suc k) n zero x e h = absurd (omega arith)
+zeros_first (suc k) n (suc m) x e h =
+    let top : byte_at m x ≡ 0 = byte_zero m x (omega (arith, pow-le-pow_right {n = 256} (omega arith) {i = n} {j = m} (omega arith))) in
+    rw top (ap (λ (l : List ℕ). 0 ∷ l) (zeros_first k n m x (omega arith) h))
 
-stores_paste : (vs l : List ℕ) (at : ℕ) → at + length vs ≤ length l → stores l at vs ≡ paste l at vs (length vs)
-stores_paste [] l at h = sets-eq [] l at h
-stores_paste (v ∷ vs) l at h =
-    stores_sets vs (set l at v) at 1
-    ∙ ap (λ (j : ℕ). sets (set l at v) j vs) (add-one at)
-    ∙ sets-eq (v ∷ vs) l at h
-    ∙ rw (take_all (suc (length vs)) (v ∷ vs) (omega arith))
-
--- the one law behind every writer of a number
-pub stores_number : (k : ℕ) (s : List ℕ) (at n : ℕ) → at + k ≤ length s → stores s at (digits k n) ≡ paste s at ((number k).write n) k
+-- the one law behind every writer of a number: the last n of its eight bytes
+pub low_bytes : (n x : ℕ) → n ≤ 8 → take (8 - (8 - n)) (drop (8 - n) (bytes_high_first 8 x)) ≡ (number n).write x
 unfolding number
-stores_number k s at n h =
-    rw (digits_written k n)
-    (let e : length (digits k n) ≡ k = rw (digits_written k n) at (length_number k n) in
-    let j : at + length (digits k n) ≤ length s = omega arith in
-    stores_paste (digits k n) s at j ∙ ap (λ (x : ℕ). paste s at (digits k n) x) e)
+low_bytes n x h =
+    let e : 8 - (8 - n) ≡ n = omega arith in
+    let l : length (write_number n x) ≤ n = omega (arith, length_number n x) in
+    rw (e, last_bytes (8 - n) n 8 x (omega arith), ← bytes_written n x) (take_all n (write_number n x) l)
+
+-- the one law behind every reader of a number: its n bytes behind zeros
+pub read_is : (n : ℕ) (s : List ℕ) (at : ℕ) (ys : List ℕ) (r : ℕ) → n ≤ 8 → at + n ≤ length s → ((i : ℕ) → get_or s i 0 < 256) → ys ≡ take n (drop at s)
+    → r ≡ from_be_bytes w64 (put_mid (8 - n) (8 - (8 - n)) (replicate 8 0) ys) → Stands (number n) s at r (at + n)
+unfolding number
+read_is n s at ys r h k small e f =
+    let x : ℕ = value_at n s at in
+    let w : Stands (number n) s at x (at + n) = stands_number n s at x k small refl in
+    let o = (number n).read_is (drop at s) x (drop (at + n) s) w.reads in
+    let l : length (write_number n x) ≡ n = length_number n x in
+    let g : ys ≡ bytes_high_first n x = e ∙ ap (take n) o.0 ∙ take_at (write_number n x) (drop (at + n) s) n l ∙ bytes_written n x in
+    let z : put_mid (8 - n) (8 - (8 - n)) (replicate 8 0) ys ≡ bytes_high_first 8 x =
+    rw (take-replicate {X = ℕ} (8 - n) 8 0 (omega arith), drop-replicate {X = ℕ} (8 - n) 8 0, drop_all {X = ℕ} (8 - (8 - n)) (replicate (8 - (8 - n)) 0) (omega (arith, length-replicate {A = ℕ} (8 - (8 - n)) 0)), append-nil, g)
+    (zeros_first (8 - n) n 8 x (omega arith) o.1) in
+    let b : x < 256 ^ 8 = omega (arith, o.1, pow-le-pow_right {n = 256} (omega arith) {i = n} {j = 8} h) in
+    stands_number n s at r k small (f ∙ ap (from_be_bytes w64) z ∙ from_be_bytes-to_be_bytes_8 x b)

@@ -9,9 +9,9 @@ use crate::remove;
 use codec::numbers::{read_eight, write_eight, write_two};
 use layout::{ACTIVE_COUNT, ENTRIES, ENTRY_COUNT, LAST};
 use moves::shift;
-use places::cursor::Cursor;
 use places::finds::least_start;
 use places::skips::entry_past;
+use room::View;
 
 // How many entries are kept, and where they end.
 #[derive(Clone, Copy)]
@@ -27,11 +27,10 @@ fn prune_entries(room: &mut [u8], n: usize, least: u64) -> Kept
 {
     let mut end = ENTRIES;
     let mut count = 0;
-    let mut c = Cursor::new(ENTRIES, n);
-    while 0 < c.left {
-        let from = c.at;
-        let next = entry_past(room, from);
-        c = c.past(next);
+    let mut next = ENTRIES;
+    for _ in 0..n {
+        let from = next;
+        next = entry_past(room, from);
         if read_eight(room, from) < least {
             continue;
         }
@@ -53,26 +52,17 @@ pub fn empty_recent_committed_txns(room: &mut [u8], last: u64)
 }
 
 // Prunes the entries that no active transaction can conflict with, and answers how many are kept.
-pub fn recycle_recent_committed_txns(
-    room: &mut [u8],
-    last: u64,
-    entries: usize,
-    active: usize,
-    middle: usize,
-    used: usize,
-) -> usize
-    requires { Prunable room.old last entries active middle used }
-    ensures { Recycled room.old last entries active middle used room.new result }
+pub fn recycle_recent_committed_txns(room: &mut [u8], v: View) -> usize
+    requires { Prunable room.old v.last v.entries v.active v.middle v.used }
+    ensures { Recycled room.old v.last v.entries v.active v.middle v.used room.new result }
 {
-    if active == 0 {
-        empty_recent_committed_txns(room, last);
+    if v.active == 0 {
+        empty_recent_committed_txns(room, v.last);
         return 0;
     }
-    let least = least_start(room, middle, active, last);
-    let kept = prune_entries(room, entries, least);
-    let end = kept.end;
-    let count = kept.count;
-    remove(room, used, end, middle - end);
-    write_two(room, ENTRY_COUNT, count);
-    count
+    let least = least_start(room, v.middle, v.active, v.last);
+    let kept = prune_entries(room, v.entries, least);
+    remove(room, v.used, kept.end, v.middle - kept.end);
+    write_two(room, ENTRY_COUNT, kept.count);
+    kept.count
 }

@@ -10,8 +10,8 @@ ghost use Rattle.layout.specs.Records.{txn_form};
 ghost use Rattle.edits.specs.Edits.{Freshened};
 
 use codec::numbers::{write_eight, write_two};
-use layout::{ACTIVE_COUNT, ENTRY_COUNT, KEYS, LAST, STAMP, START, TXN};
-use moves::{copy_in, shift, splice};
+use layout::{ACTIVE_COUNT, ENTRY_COUNT, ID, KEYS, LAST, STAMP, START, TXN};
+use moves::{shift, splice};
 
 pub mod leaving;
 pub mod oracle;
@@ -41,8 +41,8 @@ pub fn put_txn(room: &mut [u8], used: usize, at: usize, id: &[u8], start: u64)
     requires { (at ≤ used) × (used + txn_size ≤ length room.old) × (length id.now ≡ id_size) }
     ensures { Spliced room.old used at 0 ((txn_form any_length).write (new_txn id.now start)) room.new }
 {
-    let mut new = [0u8; TXN];
-    copy_in(&mut new, 0, id);
+    let mut new = [0; TXN];
+    new[..ID].copy_from_slice(id);
     write_eight(&mut new, START, start);
     splice(room, used, at, 0, &new);
 }
@@ -52,8 +52,6 @@ pub fn put_entry(room: &mut [u8], used: usize, at: usize, seq: u64, set: &[u8])
     requires { (at ≤ used) × (used + (number_size + length set.now) ≤ length room.old) }
     ensures { Spliced room.old used at 0 ((number number_size).write seq ++ set.now) room.new }
 {
-    let mut head = [0u8; KEYS];
-    write_eight(&mut head, 0, seq);
-    splice(room, used, at, 0, &head);
+    splice(room, used, at, 0, &seq.to_be_bytes());
     splice(room, used + KEYS, at + KEYS, 0, set);
 }

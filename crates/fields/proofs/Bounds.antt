@@ -1,18 +1,20 @@
 -- Bounds, one at a time, and the two together.
 use Prim.Native.Nat.{ℕ, ◌≤◌, ◌<◌}
 use mathlib.Core.Path.{◌≡◌, refl, ap, ◌∙◌}
+use mathlib.Core.Bool.{false, true≢false}
 use mathlib.Core.List.{List, [], ◌∷◌}
 use mathlib.Core.Option.{Option, none, some, some-ne-none}
 use native.Mathlib.Omega.{arith}
 use borrow.Author.Tests.{eq-eqb, ne_eqb}
 use lib.ListN.{length, drop, length-drop, drop_of_length-le}
 use lib.Seq.{slice, length-slice}
-use Rattle.kinds.specs.Bounds.{Bound, unbounded, included, excluded, bound}
+use Rattle.kinds.specs.Bounds.{Bound, unbounded, included, excluded, bound, is_bounded, NoKind}
+use Rattle.kinds.specs.declared.kind.Kind.{Kind}
 use Rattle.kinds.specs.declared.kind.Kind.TheVariants.{Unbounded, Included, Excluded}
 use Rattle.bounds.specs.Ranges.{range}
 use Rattle.fields.specs.declared.BoundPlaces.{BoundPlaces}
 use Rattle.fields.specs.Fields.{bound_tag, field, before, on_some, fields, as_bound, bound_list, pair_of, bounds_of}
-use Rattle.fields.specs.Forms.{ItemAt, EndAt, CutAt, NoBoundAt, BoundsAt, NoBoundsIn, first_of}
+use Rattle.fields.specs.Forms.{ItemAt, EndAt, CutAt, NoBoundAt, BoundsAt, NoBoundsIn, BoundItem, first_of}
 use Rattle.fields.proofs.Lists.{list_nil, list_cut, list_item, list_broken, list_more}
 
 pub bounds_cut : {bs : List ℕ} {at : ℕ} → CutAt bs at → NoBoundAt bs at
@@ -22,29 +24,27 @@ pub bounds_end : {bs : List ℕ} {at : ℕ} → EndAt bs at → NoBoundAt bs at
 bounds_end b = record { lacks = ap first_of (ap bound_list b.ends ∙ list_nil as_bound) }
 
 module _ {bs : List ℕ} {at tag from to : ℕ} (i : ItemAt fields bs at tag from to (field tag (slice from to bs))) where
-  pub unbounded_here : tag ≡ bound_tag Unbounded → to ≤ from → ItemAt bound_list bs at (bound_tag Unbounded) from to unbounded
+  -- a bound of the kind that the tag names, where an unbounded one has no payload
+  pub bound_here : (k : Kind) → tag ≡ bound_tag k → (is_bounded k ≡ false → to ≤ from) → ItemAt bound_list bs at (bound_tag k) from to (bound k (slice from to bs))
   unfolding as_bound
-  unbounded_here e k =
-      let n : length (slice from to bs) ≡ 0 = length-slice from to bs i.within ∙ omega arith in
+  bound_here Unbounded e h =
+      let n : length (slice from to bs) ≡ 0 = length-slice from to bs i.within ∙ (let m = h refl in omega arith) in
       list_item as_bound i (bound_tag Unbounded) unbounded e (rw (eq-eqb tag (bound_tag Unbounded) e, n))
+  bound_here Included e h = list_item as_bound i (bound_tag Included) (included (slice from to bs)) e (rw e)
+  bound_here Excluded e h = list_item as_bound i (bound_tag Excluded) (excluded (slice from to bs)) e (rw e)
 
-  pub unbounded_full : tag ≡ bound_tag Unbounded → from < to → NoBoundAt bs at
+  pub unbounded_full : (k : Kind) → tag ≡ bound_tag k → is_bounded k ≡ false → from < to → NoBoundAt bs at
   unfolding as_bound
-  unbounded_full e k =
+  unbounded_full Unbounded e b k =
       let n : length (slice from to bs) ≡ 0 → ⊥ = λ z. omega (arith, length-slice from to bs i.within) in
       record { lacks = ap first_of (list_broken as_bound i (rw (eq-eqb tag (bound_tag Unbounded) e, ne_eqb (length (slice from to bs)) 0 n))) }
+  unbounded_full Included e b k = absurd (true≢false b)
+  unbounded_full Excluded e b k = absurd (true≢false b)
 
-  pub included_here : tag ≡ bound_tag Included → ItemAt bound_list bs at (bound_tag Included) from to (included (slice from to bs))
+  pub tag_unknown : NoKind tag → NoBoundAt bs at
   unfolding as_bound
-  included_here e = list_item as_bound i (bound_tag Included) (included (slice from to bs)) e (rw e)
-
-  pub excluded_here : tag ≡ bound_tag Excluded → ItemAt bound_list bs at (bound_tag Excluded) from to (excluded (slice from to bs))
-  unfolding as_bound
-  excluded_here e = list_item as_bound i (bound_tag Excluded) (excluded (slice from to bs)) e (rw e)
-
-  pub tag_unknown : (tag ≡ bound_tag Unbounded → ⊥) → (tag ≡ bound_tag Included → ⊥) → (tag ≡ bound_tag Excluded → ⊥) → NoBoundAt bs at
-  unfolding as_bound
-  tag_unknown e f g = record { lacks = ap first_of (list_broken as_bound i (rw (ne_eqb tag (bound_tag Unbounded) e, ne_eqb tag (bound_tag Included) f, ne_eqb tag (bound_tag Excluded) g))) }
+  tag_unknown n =
+      record { lacks = ap first_of (list_broken as_bound i (rw (ne_eqb tag (bound_tag Unbounded) n.not_unbounded, ne_eqb tag (bound_tag Included) n.not_included, ne_eqb tag (bound_tag Excluded) n.not_excluded))) }
 
 -- the two together
 no_pair : (o : Option (List Bound)) → first_of o ≡ none → on_some o pair_of ≡ none
@@ -81,11 +81,7 @@ module _ (bs : List ℕ) where
       unfolding bounds_of
       both h = rw (i.reads, j.reads, drop_of_length-le bs h, list_nil as_bound)
 
-pub bounds_here : (bs : List ℕ) (p : BoundPlaces)
-    → ItemAt bound_list bs 0 (bound_tag p.start) p.start_from p.start_to (bound p.start (slice p.start_from p.start_to bs))
-    → ItemAt bound_list bs p.start_to (bound_tag p.end) p.end_from p.end_to (bound p.end (slice p.end_from p.end_to bs))
-    → length bs ≤ p.end_to
-    → BoundsAt bs p
+pub bounds_here : (bs : List ℕ) (p : BoundPlaces) → BoundItem bs 0 p.start → BoundItem bs p.start.key.to p.end → length bs ≤ p.end.key.to → BoundsAt bs p
 bounds_here bs p i j h =
     record {
       start_begins = i.begins;

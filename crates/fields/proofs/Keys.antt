@@ -11,7 +11,8 @@ use lib.Dec.{leb}
 use lib.ListN.{length, drop}
 use lib.Seq.{slice, length-slice}
 use Rattle.keys.specs.Limit.{key_limit}
-use Rattle.fields.specs.declared.Form.{Form}
+use Rattle.std.specs.Prelude.{Result, Ok, Err}
+use Rattle.fields.specs.declared.FormError.{FormError}
 use Rattle.fields.specs.Fields.{key_tag, field, before, fields, as_key, key_list}
 use Rattle.fields.specs.Forms.{ItemAt, EndAt, CutAt, NoKeyAt, short_keys, form_of}
 use Rattle.fields.proofs.Lists.{list_nil, list_cut, list_item, list_broken}
@@ -34,9 +35,9 @@ module _ {bs : List ℕ} {at tag from to : ℕ} (i : ItemAt fields bs at tag fro
       }
 
 -- the verdict on what is left of a list, by whether the keys before it were short
-abbrev pub form_after : Bool → Option (List (List ℕ)) → Form
-form_after short none = Form.Malformed
-form_after short (some ks) = cond (short && short_keys key_limit ks) Form.Good Form.LongKey
+abbrev pub form_after : Bool → Option (List (List ℕ)) → Result (Unit {0}) FormError
+form_after short none = Err FormError.Malformed
+form_after short (some ks) = cond (short && short_keys key_limit ks) (Ok tt) (Err FormError.LongKey)
 
 pub form_start : (o : Option (List (List ℕ))) → form_of o ≡ form_after true o
 form_start none = refl
@@ -49,11 +50,11 @@ form_before true k (some ks) = refl
 form_before false k (some ks) = refl
 
 module _ (bs : List ℕ) (at : ℕ) (short : Bool) where
-  pub form_end : EndAt bs at → form_after short (key_list (drop at bs)) ≡ cond short Form.Good Form.LongKey
+  pub form_end : EndAt bs at → form_after short (key_list (drop at bs)) ≡ cond short (Ok tt) (Err FormError.LongKey)
   unfolding short_keys
-  form_end e = rw (e.ends, list_nil as_key) (ap (λ b. cond b Form.Good Form.LongKey) (and-true short))
+  form_end e = rw (e.ends, list_nil as_key) (ap (λ b. cond b (Ok tt) (Err FormError.LongKey)) (and-true short))
 
-  pub form_bad : NoKeyAt bs at → form_after short (key_list (drop at bs)) ≡ Form.Malformed
+  pub form_bad : NoKeyAt bs at → form_after short (key_list (drop at bs)) ≡ Err FormError.Malformed
   form_bad b = rw b.breaks
 
   module _ (from to : ℕ) (i : ItemAt key_list bs at key_tag from to (slice from to bs)) where

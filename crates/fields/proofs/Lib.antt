@@ -1,3 +1,4 @@
+pub mod Errs
 pub mod Steps
 pub mod Reading
 pub mod Lists

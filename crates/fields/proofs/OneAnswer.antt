@@ -13,10 +13,12 @@ use Rattle.kinds.specs.declared.kind.Kind.TheVariants.{Unbounded, Included, Excl
 use Rattle.kinds.specs.Bounds.{bound}
 use Rattle.bounds.specs.Ranges.{range}
 use Rattle.ranges.specs.Made.{kind_of}
-use Rattle.fields.specs.declared.FieldAt.{FieldAt}
-use Rattle.fields.specs.declared.NextKey.{NextKey}
+use Rattle.std.specs.Prelude.{Option as Maybe, Some, None, Result, Ok, Err}
+use Rattle.fields.specs.declared.Span.{Span}
+use Rattle.fields.specs.declared.Field.{Field}
+use Rattle.fields.specs.declared.Malformed.{Malformed}
+use Rattle.fields.specs.declared.BoundPlace.{BoundPlace}
 use Rattle.fields.specs.declared.BoundPlaces.{BoundPlaces}
-use Rattle.fields.specs.declared.ReadBounds.{ReadBounds}
 use Rattle.fields.specs.Fields.{field_head, key_tag}
 use Rattle.fields.specs.Forms.{ItemAt, EndAt, FieldIs, NextIs, BoundsAre, size_at}
 use Rattle.fields.proofs.field_at.Kinds as field-at-kinds
@@ -54,27 +56,33 @@ module _ (bs : List ℕ) (at : ℕ) where
       same_to : to ≡ to'
       same_to = omega (arith, i, j)
 
-  field_once : (r s : FieldAt) → FieldIs bs at r → FieldIs bs at s → r ≡ s
-  field_once (FieldAt.At t f u) (FieldAt.At t' f' u') i j = rw (same_tag i j, same_from i j, same_to i j)
-  field_once (FieldAt.At t f u) FieldAt.End i j = absurd (not_over i j)
-  field_once (FieldAt.At t f u) FieldAt.Cut i j = absurd (not_cut i j.passes)
-  field_once FieldAt.End (FieldAt.At t f u) i j = absurd (not_over j i)
-  field_once FieldAt.End FieldAt.End i j = refl
-  field_once FieldAt.End FieldAt.Cut i j = absurd (left_over j.left i)
-  field_once FieldAt.Cut (FieldAt.At t f u) i j = absurd (not_cut j i.passes)
-  field_once FieldAt.Cut FieldAt.End i j = absurd (left_over i.left j)
-  field_once FieldAt.Cut FieldAt.Cut i j = refl
+  same_span : (x y : Span) → x.from ≡ y.from → x.to ≡ y.to → x ≡ y
+  same_span x y a b = λ i. record { from = a i; to = b i }
 
-  next_once : (r s : NextKey) → NextIs bs at r → NextIs bs at s → r ≡ s
-  next_once (NextKey.Key f u) (NextKey.Key f' u') i j = rw (same_from i j, same_to i j)
-  next_once (NextKey.Key f u) NextKey.End i j = absurd (not_over i j)
-  next_once (NextKey.Key f u) NextKey.Bad i j = absurd (not_wrong i refl j.wrong)
-  next_once NextKey.End (NextKey.Key f u) i j = absurd (not_over j i)
-  next_once NextKey.End NextKey.End i j = refl
-  next_once NextKey.End NextKey.Bad i j = absurd (left_over j.left i)
-  next_once NextKey.Bad (NextKey.Key f u) i j = absurd (not_wrong j refl i.wrong)
-  next_once NextKey.Bad NextKey.End i j = absurd (left_over i.left j)
-  next_once NextKey.Bad NextKey.Bad i j = refl
+  same_field : (x y : Field) → x.tag ≡ y.tag → x.payload ≡ y.payload → x ≡ y
+  same_field x y a b = λ i. record { tag = a i; payload = b i }
+
+  field_once : (r s : Result (Maybe Field) Malformed) → FieldIs bs at r → FieldIs bs at s → r ≡ s
+  field_once (Ok (Some f)) (Ok (Some g)) i j = ap (λ x. Ok (Some x)) (same_field f g (same_tag i j) (same_span f.payload g.payload (same_from i j) (same_to i j)))
+  field_once (Ok (Some f)) (Ok None) i j = absurd (not_over i j)
+  field_once (Ok (Some f)) (Err e) i j = absurd (not_cut i j.passes)
+  field_once (Ok None) (Ok (Some f)) i j = absurd (not_over j i)
+  field_once (Ok None) (Ok None) i j = refl
+  field_once (Ok None) (Err e) i j = absurd (left_over j.left i)
+  field_once (Err e) (Ok (Some f)) i j = absurd (not_cut j i.passes)
+  field_once (Err e) (Ok None) i j = absurd (left_over i.left j)
+  field_once (Err e) (Err f) i j = refl
+
+  next_once : (r s : Result (Maybe Span) Malformed) → NextIs bs at r → NextIs bs at s → r ≡ s
+  next_once (Ok (Some k)) (Ok (Some l)) i j = ap (λ x. Ok (Some x)) (same_span k l (same_from i j) (same_to i j))
+  next_once (Ok (Some k)) (Ok None) i j = absurd (not_over i j)
+  next_once (Ok (Some k)) (Err e) i j = absurd (not_wrong i refl j.wrong)
+  next_once (Ok None) (Ok (Some k)) i j = absurd (not_over j i)
+  next_once (Ok None) (Ok None) i j = refl
+  next_once (Ok None) (Err e) i j = absurd (left_over j.left i)
+  next_once (Err e) (Ok (Some k)) i j = absurd (not_wrong j refl i.wrong)
+  next_once (Err e) (Ok None) i j = absurd (left_over i.left j)
+  next_once (Err e) (Err f) i j = refl
 
 kind_of_bound : (k : Kind) (x : List ℕ) → kind_of (bound k x) ≡ k
 kind_of_bound Unbounded x = refl
@@ -88,23 +96,24 @@ same_kinds k l k' l' x y x' y' e =
     (sym (kind_of_bound k x) ∙ ap (λ r. kind_of r.start) f ∙ kind_of_bound k' x', sym (kind_of_bound l y) ∙ ap (λ r. kind_of r.end) f ∙ kind_of_bound l' y')
 
 same_places : (p q : BoundPlaces)
-    → p.start ≡ q.start
-    → p.start_from ≡ q.start_from
-    → p.start_to ≡ q.start_to
-    → p.end ≡ q.end
-    → p.end_from ≡ q.end_from
-    → p.end_to ≡ q.end_to
+    → p.start.kind ≡ q.start.kind
+    → p.start.key.from ≡ q.start.key.from
+    → p.start.key.to ≡ q.start.key.to
+    → p.end.kind ≡ q.end.kind
+    → p.end.key.from ≡ q.end.key.from
+    → p.end.key.to ≡ q.end.key.to
     → p ≡ q
-same_places p q a b c d e f = λ i. record { start = a i; start_from = b i; start_to = c i; end = d i; end_from = e i; end_to = f i }
+same_places p q a b c d e f =
+    λ i. record { start = record { kind = a i; key = record { from = b i; to = c i } }; end = record { kind = d i; key = record { from = e i; to = f i } } }
 
 module _ (bs : List ℕ) where
-  bounds_once : (r s : ReadBounds) → BoundsAre bs r → BoundsAre bs s → r ≡ s
-  bounds_once (ReadBounds.Bounds p) (ReadBounds.Bounds q) i j =
+  bounds_once : (r s : Result BoundPlaces Malformed) → BoundsAre bs r → BoundsAre bs s → r ≡ s
+  bounds_once (Ok p) (Ok q) i j =
       let k = same_kinds _ _ _ _ _ _ _ _ (sym i.reads ∙ j.reads) in
-      ap ReadBounds.Bounds (same_places p q k.0 (omega (arith, i, j)) (omega (arith, i, j)) k.1 (omega (arith, i, j)) (i.whole ∙ sym j.whole))
-  bounds_once (ReadBounds.Bounds p) ReadBounds.NoBounds i j = absurd (none-ne-some _ (sym j.breaks ∙ i.reads))
-  bounds_once ReadBounds.NoBounds (ReadBounds.Bounds p) i j = absurd (none-ne-some _ (sym i.breaks ∙ j.reads))
-  bounds_once ReadBounds.NoBounds ReadBounds.NoBounds i j = refl
+      ap Ok (same_places p q k.0 (omega (arith, i, j)) (omega (arith, i, j)) k.1 (omega (arith, i, j)) (i.whole ∙ sym j.whole))
+  bounds_once (Ok p) (Err e) i j = absurd (none-ne-some _ (sym j.breaks ∙ i.reads))
+  bounds_once (Err e) (Ok p) i j = absurd (none-ne-some _ (sym i.breaks ∙ j.reads))
+  bounds_once (Err e) (Err f) i j = refl
 
 pub one_field_at : OneAnswer 1 field-at-kinds.ps field-at-kinds.r field_at.Post
 one_field_at κs a x y s t p q = field_once _ _ x y p q

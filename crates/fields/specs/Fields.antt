@@ -2,7 +2,7 @@
 use Rattle.std.specs.Prelude.{ℕ, zero, suc, ◌+◌, ◌*◌, ◌/◌, ◌%◌, ◌<◌, cond, List, [], ◌∷◌, ◌++◌, leb, eqb, length, take, drop}
 use Rattle.std.proofs.Math.Option.{Option, none, some}
 use Rattle.kinds.specs.Bounds.{Bound, unbounded, included, excluded}
-use Rattle.kinds.specs.declared.kind.Kind.{Kind}
+pub use Rattle.kinds.specs.Bounds.{bound_tag}
 use Rattle.kinds.specs.declared.kind.Kind.TheVariants.{Unbounded, Included, Excluded}
 use Rattle.bounds.specs.Ranges.{Range, range}
 use Rattle.ranges.specs.Bytes.{Bytes}
@@ -25,12 +25,6 @@ size_of h l = h * 256 + l
 -- "Key list: fields of tag 4B"
 abbrev pub key_tag : ℕ
 key_tag = 0x4b
-
--- document 01's tag of each kind of bound
-abbrev pub bound_tag : Kind → ℕ
-bound_tag Unbounded = 0x10
-bound_tag Included = 0x11
-bound_tag Excluded = 0x12
 
 -- "Field: one-byte tag, two-byte big-endian length, payload": what stands at the front of some bytes. No bytes; a tag whose
 -- length is not all there; a tag and the length that it says, whose payload is not all there; a field, and what follows it

@@ -1,23 +1,19 @@
 // Fields: a one-byte tag, a two-byte big-endian length and a payload; key lists and bounds, which are made of them.
 #![tactic(auto)]
 
-ghost use Rattle.std.specs.Prelude.{◌≡◌};
+ghost use Rattle.std.specs.Prelude.{◌≡◌, ⊤};
 ghost use Rattle.fields.specs.Fields.{key_list};
 ghost use Rattle.fields.specs.Forms.{FieldIs, NextIs, form_of, BoundFieldIs, BoundsAre};
 ghost use Rattle.fields.specs.declared.FormError.{FormError};
 
 use keys::KEY_LIMIT;
-use kinds::kind::Kind;
+use kinds::kind::{Kind, UnknownTag};
 
 // The tag of a key.
 pub const KEY: u8 = 0x4b;
 
 // The tags of the three kinds of bounds.
-pub const UNBOUNDED: u8 = 0x10;
-
-pub const INCLUDED: u8 = 0x11;
-
-pub const EXCLUDED: u8 = 0x12;
+pub use kinds::kind::{EXCLUDED, INCLUDED, UNBOUNDED};
 
 // A field's tag and length take this many bytes.
 pub const FIELD_HEAD: usize = 3;
@@ -40,6 +36,14 @@ pub struct Field {
 #[derive(Clone, Copy)]
 pub struct Malformed;
 
+impl From<UnknownTag> for Malformed {
+    ghost from_gives = { λ _ _. ⊤ };
+
+    fn from(_tag: UnknownTag) -> Malformed {
+        Malformed
+    }
+}
+
 // The field at a place, none where the bytes end there.
 pub fn field_at(bytes: &[u8], at: usize) -> Result<Option<Field>, Malformed>
     ensures { FieldIs bytes.now at result }
@@ -56,7 +60,10 @@ pub fn field_at(bytes: &[u8], at: usize) -> Result<Option<Field>, Malformed>
     }
     let from = at + FIELD_HEAD;
     let to = from + n;
-    Ok(Some(Field { tag: *tag, payload: Span { from, to } }))
+    Ok(Some(Field {
+        tag: *tag,
+        payload: Span { from, to },
+    }))
 }
 
 // The key at a place of a key list, none where the list ends there.
@@ -99,7 +106,11 @@ pub fn check_keys(list: &[u8]) -> Result<(), FormError>
         }
         at = key.to;
     }
-    if short { Ok(()) } else { Err(FormError::LongKey) }
+    if short {
+        Ok(())
+    } else {
+        Err(FormError::LongKey)
+    }
 }
 
 // A bound: its kind, and where its key stands.
@@ -113,20 +124,12 @@ fn bound_at(bytes: &[u8], at: usize) -> Result<BoundPlace, Malformed>
     ensures { BoundFieldIs bytes.now at result }
 {
     let field = field_at(bytes, at)?.ok_or(Malformed)?;
+    let kind = Kind::try_from(field.tag)?;
     let key = field.payload;
-    if field.tag == UNBOUNDED {
-        if key.from < key.to {
-            return Err(Malformed);
-        }
-        return Ok(BoundPlace { kind: Kind::Unbounded, key });
+    if !kind.bounded() && key.from < key.to {
+        return Err(Malformed);
     }
-    if field.tag == INCLUDED {
-        return Ok(BoundPlace { kind: Kind::Included, key });
-    }
-    if field.tag == EXCLUDED {
-        return Ok(BoundPlace { kind: Kind::Excluded, key });
-    }
-    Err(Malformed)
+    Ok(BoundPlace { kind, key })
 }
 
 // Two bounds by the places of their keys.

@@ -1,19 +1,24 @@
 -- The algebra of splices: a shift and a copy make one, and what stands in the used bytes after one.
-use Prim.Native.Nat.{ℕ, zero, suc, ◌+◌, ◌-◌, ◌≤◌}
-use native.Mathlib.Nat.{le_refl}
+use Prim.Native.Nat.{ℕ, ◌+◌, ◌-◌, ◌≤◌}
 use mathlib.Core.Path.{◌≡◌, refl, sym, ap, ◌∙◌}
-use mathlib.Core.List.{List, [], ◌∷◌, ◌++◌, append_assoc}
+use mathlib.Core.List.{List, ◌++◌, append_assoc}
 use native.Mathlib.Omega.{arith}
-use lib.ListN.{length, take, drop, length-append, length-drop}
-use lib.Seq.{paste, take-paste, drop-paste, length-take-le, take-length, take-append-le, take-take, take_at, drop_at, drop-drop, take-nil}
-use Rattle.moves.proofs.MoveLaws.{stays}
+use Rattle.std.proofs.lemmas.List.Edits.{paste-paste}
+use Rattle.std.proofs.lemmas.Slice.{between_is}
+use lib.ListN.{length, take, drop, length-append, length-drop, take-append-drop}
+use lib.Seq.{paste, length-take-le, take-length, take-append-le, take-take, take_at, drop_at, drop-drop}
 use Rattle.moves.specs.Splices.{Spliced, used_after}
 
+-- a move that goes nowhere changes nothing
+pub stays : (d : List ℕ) (from to n : ℕ) → from ≡ to → d ≡ paste d to (drop from d) n
+stays d from to n e =
+    rw e
+    (sym
+    (append_assoc (take to d) (take n (drop to d)) (drop (to + n) d)
+    ∙ rw (← drop-drop n to d, take-append-drop n (drop to d)) (take-append-drop to d)))
+
 pub drop_take : (a b : ℕ) (l : List ℕ) → drop a (take b l) ≡ take (b - a) (drop a l)
-drop_take zero b l = let e : b - 0 ≡ b = omega arith in rw e
-drop_take (suc a) zero l = let e : 0 - suc a ≡ 0 = omega arith in rw e
-drop_take (suc a) (suc b) [] = sym (take-nil (suc b - suc a))
-drop_take (suc a) (suc b) (x ∷ l) = let e : suc b - suc a ≡ b - a = omega arith in drop_take a b l ∙ rw e
+drop_take a b l = sym (between_is l a b)
 
 -- the same bytes from a place on, so from every later one
 pub later : (s r : List ℕ) (a b : ℕ) → a ≤ b → drop a r ≡ drop a s → drop b r ≡ drop b s
@@ -98,11 +103,4 @@ splice_on {s} {used} {at} {gone} {a} {s1} {b} {s2} h k v w =
 -- two copies, one right after the other, are one
 pub paste_on : (d : List ℕ) (at : ℕ) (a b : List ℕ) → at + length a + length b ≤ length d
     → paste (paste d at a (length a)) (at + length a) b (length b) ≡ paste d at (a ++ b) (length (a ++ b))
-paste_on d at a b h =
-    let x : List ℕ = paste d at a (length a) in
-    let t : take (at + length a) x ≡ take at d ++ a = take-paste d at a (length a) (omega arith) (le_refl _) ∙ rw (take-length a) in
-    let u : drop (at + length a) x ≡ drop (at + length a) d = drop-paste d at a (length a) (omega arith) (le_refl _) in
-    let r : drop (at + length a + length b) x ≡ drop (at + length a + length b) d =
-    sym (drop-drop (length b) (at + length a) x) ∙ ap (drop (length b)) u ∙ drop-drop (length b) (at + length a) d in
-    let e : at + length (a ++ b) ≡ at + length a + length b = rw (length-append a b) (omega arith) in
-    rw (t, r, e, take-length (a ++ b), take-length b) (simp append_assoc)
+paste_on d at a b h = rw (length-append a b) (paste-paste d at a b (length a) (length b) refl refl (omega arith))

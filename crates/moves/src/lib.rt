@@ -5,40 +5,12 @@ ghost use Rattle.std.specs.Prelude.{◌≡◌, ◌+◌, ◌≤◌, length, drop}
 ghost use Rattle.std.proofs.Math.Seq.{paste};
 ghost use Rattle.moves.specs.Splices.{Spliced, used_after};
 
-// Copies `n` bytes from one place to a later one, the last byte first.
-pub fn move_up(room: &mut [u8], from: usize, to: usize, n: usize)
-    requires { (from ≤ to) × (to + n ≤ length room.old) }
-    ensures { room.new ≡ paste room.old to (drop from room.old) n }
-{
-    let mut left = n;
-    while 0 < left {
-        left -= 1;
-        room[to + left] = room[from + left];
-    }
-}
-
-// Copies `n` bytes from one place to an earlier one, the first byte first.
-pub fn move_down(room: &mut [u8], from: usize, to: usize, n: usize)
-    requires { (to ≤ from) × (from + n ≤ length room.old) }
-    ensures { room.new ≡ paste room.old to (drop from room.old) n }
-{
-    let mut i = 0;
-    while i < n {
-        room[to + i] = room[from + i];
-        i += 1;
-    }
-}
-
 // Copies a slice into another from a place on.
 pub fn copy_in(room: &mut [u8], at: usize, src: &[u8])
     requires { at + length src.now ≤ length room.old }
     ensures { room.new ≡ paste room.old at src.now (length src.now) }
 {
-    let mut i = 0;
-    while i < src.len() {
-        room[at + i] = src[i];
-        i += 1;
-    }
+    room[at..at + src.len()].copy_from_slice(src);
 }
 
 // Copies `n` bytes from one place to another; a tail that stays where it is costs nothing.
@@ -46,10 +18,8 @@ pub fn shift(room: &mut [u8], from: usize, to: usize, n: usize)
     requires { (from + n ≤ length room.old) × (to + n ≤ length room.old) }
     ensures { room.new ≡ paste room.old to (drop from room.old) n }
 {
-    if from < to {
-        move_up(room, from, to, n);
-    } else if to < from {
-        move_down(room, from, to, n);
+    if from != to {
+        room.copy_within(from..from + n, to);
     }
 }
 

@@ -1,84 +1,75 @@
 -- A range between two made bounds: the answer by what code tested.
 use Prim.Native.Nat.{ℕ, ◌≤◌, ◌<◌}
-use mathlib.Core.Path.{◌≡◌, refl, sym, ap, ◌∙◌}
-use mathlib.Core.Bool.{Bool, true, false, cond, ◌||◌, or-true}
+use mathlib.Core.Path.{◌≡◌, refl, ap, ◌∙◌}
+use mathlib.Core.Bool.{Bool, true, false, cond, or-true}
 use mathlib.Core.List.{List, [], ◌∷◌, ◌++◌}
 use native.Mathlib.Omega.{arith}
 use borrow.Author.Tests.{lt-ltb, ltb-false}
 use lib.ListN.{length, take, length-append}
+use Rattle.std.specs.Prelude.{Ok, Err}
 use Rattle.keys.specs.Limit.{key_limit}
 use Rattle.kinds.specs.Bounds.{Bound, unbounded, included, excluded, bound}
-use Rattle.bounds.specs.Ranges.{range, not_empty}
-use Rattle.ranges.specs.declared.made.Making.{Making}
-use Rattle.ranges.specs.declared.made.Making.TheVariants.{Done, LongKey, EmptyRange}
-use Rattle.ranges.specs.declared.made.Made.{Made}
-use Rattle.ranges.specs.Made.{Sized, is_done, too_long, kind_of, key_of, made_of, made, made_bound}
-use Rattle.ranges.specs.Making.{new_of, made_as, answered, made_range}
+use Rattle.bounds.specs.Ranges.{range}
+use Rattle.ranges.specs.declared.made.RangeError.{RangeError}
+use Rattle.ranges.specs.declared.made.RangeError.TheVariants.{LongKey}
+use Rattle.ranges.specs.declared.made.MadeBound.{MadeBound}
+use Rattle.ranges.specs.Made.{Sized, too_long, kind_of, key_of, made_of, made_bound}
+use Rattle.ranges.specs.Making.{new_of, made_range}
 use Rattle.ranges.specs.Prefixes.{sub_start}
 use Rattle.ranges.proofs.MadeLaws.{take_padded, length_padded, bound_back}
-
-done_by : (t : Bool) (b : Bound) → is_done (cond t (made LongKey unbounded) (made Done b)).making ≡ true → cond t (made LongKey unbounded) (made Done b) ≡ made Done b
-done_by true b e = cc
-done_by false b e = refl
-
-long_by : (t : Bool) (b : Bound) → is_done (cond t (made LongKey unbounded) (made Done b)).making ≡ false → t ≡ true
-long_by true b e = refl
-long_by false b e = cc
-
-module _ {m : Made} (b : Bound) (e : m ≡ made_bound b) where
-  pub was_made : is_done m.making ≡ true → m ≡ made Done b
-  was_made d = e ∙ done_by (too_long b) b (ap (λ v. is_done v.making) (sym e) ∙ d)
-
-  pub was_long : is_done m.making ≡ false → too_long b ≡ true
-  was_long d = long_by (too_long b) b (ap (λ v. is_done v.making) (sym e) ∙ d)
 
 short_key : (b : Bound) → too_long b ≡ false → length (key_of b) ≤ key_limit
 short_key unbounded e = omega arith
 short_key (included k) e = ltb-false key_limit (length k) e
 short_key (excluded k) e = ltb-false key_limit (length k) e
 
-sized_done : (k : Making) (b : Bound) → too_long b ≡ false → Sized (made k b)
-unfolding made_of
-sized_done k b e = record { len = short_key b e; bytes = length_padded (key_of b) (short_key b e) }
+module _ (b : Bound) where
+  pub was_made : {m : MadeBound} → Ok m ≡ made_bound b → m ≡ made_of b
+  was_made {m} = go (too_long b)
+    where
+      go : (t : Bool) → Ok m ≡ cond t (Err LongKey) (Ok (made_of b)) → m ≡ made_of b
+      go true h = cc
+      go false h = cc
 
-pub sized : (b : Bound) {m : Made} → m ≡ made_bound b → Sized m
-sized b e = rw e (go (too_long b) refl)
-  where
-    go : (t : Bool) → too_long b ≡ t → Sized (cond t (made LongKey unbounded) (made Done b))
-    go true h = sized_done LongKey unbounded refl
-    go false h = sized_done Done b h
+  pub sized : {m : MadeBound} → Ok m ≡ made_bound b → Sized m
+  unfolding made_of
+  sized {m} e = rw (was_made e) (go (too_long b) refl e)
+    where
+      go : (t : Bool) → too_long b ≡ t → Ok m ≡ cond t (Err LongKey) (Ok (made_of b)) → Sized (made_of b)
+      go true h f = cc
+      go false h f = record { len = short_key b h; bytes = length_padded (key_of b) (short_key b h) }
 
--- a made bound read back
-pub read_back : (b : Bound) {m : Made} → m ≡ made Done b → bound m.bound.kind (take m.bound.len m.bound.bytes) ≡ b
-unfolding made_of
-read_back b e =
-    (λ i. bound (e i).bound.kind (take (e i).bound.len (e i).bound.bytes)) ∙ ap (bound (kind_of b)) (take_padded (key_of b)) ∙ bound_back b
+  -- a made bound read back
+  pub read_back : {m : MadeBound} {k : List ℕ} → Ok m ≡ made_bound b → k ≡ take m.len m.bytes → bound m.kind k ≡ b
+  unfolding made_of
+  read_back {m} e h =
+      ap (bound m.kind) h
+      ∙ (λ i. bound (was_made e i).kind (take (was_made e i).len (was_made e i).bytes))
+      ∙ ap (bound (kind_of b)) (take_padded (key_of b))
+      ∙ bound_back b
 
 module _ (s e : Bound) where
-  pub long_start : too_long s ≡ true → made_as LongKey unbounded unbounded ≡ made_range (range s e)
+  pub long_start : too_long s ≡ true → Err LongKey ≡ made_range (range s e)
   unfolding new_of
-  long_start h = ap (λ v. answered v (range s e)) (sym (ap (λ t. cond (t || too_long e) LongKey (cond (not_empty (range s e)) Done EmptyRange)) h))
+  long_start h = rw h
 
-  pub long_end : too_long e ≡ true → made_as LongKey unbounded unbounded ≡ made_range (range s e)
+  pub long_end : too_long e ≡ true → Err LongKey ≡ made_range (range s e)
   unfolding new_of
-  long_end h =
-      ap (λ v. answered v (range s e)) (sym (ap (λ t. cond t LongKey (cond (not_empty (range s e)) Done EmptyRange)) (ap (λ u. too_long s || u) h ∙ or-true (too_long s))))
+  long_end h = rw (h, or-true)
 
-  pub stands : {m : Making} → m ≡ new_of (range s e) → is_done m ≡ true → made_as Done s e ≡ made_range (range s e)
-  stands {m} h d = go m d ∙ ap (λ v. answered v (range s e)) h
+  pub start_failed : {x : RangeError} → Err x ≡ made_bound s → Err x ≡ made_range (range s e)
+  start_failed {x} = go (too_long s) refl
     where
-      go : (v : Making) → is_done v ≡ true → made_as Done s e ≡ answered v (range s e)
-      go Done d = refl
-      go LongKey d = cc
-      go EmptyRange d = cc
+      go : (t : Bool) → too_long s ≡ t → Err x ≡ cond t (Err LongKey) (Ok (made_of s)) → Err x ≡ made_range (range s e)
+      go true h f = let q : x ≡ LongKey = cc in ap Err q ∙ long_start h
+      go false h f = cc
 
-  pub falls : {m : Making} → m ≡ new_of (range s e) → is_done m ≡ false → made_as m unbounded unbounded ≡ made_range (range s e)
-  falls {m} h d = go m d ∙ ap (λ v. answered v (range s e)) h
+  pub end_failed : {x : RangeError} → Err x ≡ made_bound e → Err x ≡ made_range (range s e)
+  end_failed {x} = go (too_long e) refl
     where
-      go : (v : Making) → is_done v ≡ false → made_as v unbounded unbounded ≡ answered v (range s e)
-      go Done d = cc
-      go LongKey d = refl
-      go EmptyRange d = refl
+      go : (t : Bool) → too_long e ≡ t → Err x ≡ cond t (Err LongKey) (Ok (made_of e)) → Err x ≡ made_range (range s e)
+      go true h f = let q : x ≡ LongKey = cc in ap Err q ∙ long_end h
+      go false h f = cc
 
 -- a prefix that is too long makes a start that is
 longer : (p s : List ℕ) → key_limit < length p → key_limit < length (p ++ s)

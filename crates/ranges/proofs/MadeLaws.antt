@@ -6,16 +6,16 @@ use mathlib.Core.List.{List, [], ◌++◌}
 use native.Mathlib.Omega.{arith}
 use native.Mathlib.Numerals.{unary_clauses}
 use borrow.Author.Tests.{lt-ltb, le-ltb}
-use lib.ListN.{length, take, drop, set, replicate, length-append, length-replicate, length-set}
+use lib.ListN.{length, get_or, get_or-append, take, drop, set, replicate, length-append, length-replicate, length-set}
 use lib.Seq.{paste, take-append_seam, take-length, drop-append-add, set-append_left}
 use Rattle.keys.specs.Limit.{key_limit}
 use Rattle.kinds.specs.declared.kind.Kind.{Kind}
 use Rattle.kinds.specs.declared.kind.Kind.TheVariants.{Unbounded, Included, Excluded}
 use Rattle.kinds.specs.Bounds.{Bound, unbounded, included, excluded, bound, is_bounded}
-use Rattle.ranges.specs.declared.made.Making.{Making}
-use Rattle.ranges.specs.declared.made.Making.TheVariants.{Done, LongKey}
-use Rattle.ranges.specs.declared.made.Made.{Made}
-use Rattle.ranges.specs.Made.{kind_of, key_of, padded, made_of, made, made_bound}
+use Rattle.std.specs.Prelude.{Ok, Err}
+use Rattle.ranges.specs.declared.made.RangeError.TheVariants.{LongKey}
+use Rattle.ranges.specs.declared.made.MadeBound.{MadeBound}
+use Rattle.ranges.specs.Made.{kind_of, key_of, padded, made_of, made_bound}
 
 drop_replicate : (n m : ℕ) → drop {A = ℕ} n (replicate m 0) ≡ replicate (m - n) 0
 drop_replicate zero m = simp unary_clauses
@@ -34,6 +34,10 @@ pub put_within : (k : List ℕ) (i v : ℕ) → i < length k → set (padded k) 
 unfolding padded
 put_within k i v h = rw (set-append_left k _ i v h, length-set)
 
+pub get_padded : (k : List ℕ) (i : ℕ) → i < length k → get_or (padded k) i 0 ≡ get_or k i 0
+unfolding padded
+get_padded k i h = get_or-append k _ 0 i h
+
 pub take_padded : (k : List ℕ) → take (length k) (padded k) ≡ k
 unfolding padded
 take_padded k = take-append_seam k _
@@ -43,26 +47,26 @@ unfolding padded
 length_padded k h = simp (length-append, length-replicate) (omega arith)
 
 -- the three ways of a bound with a made key
-pub made_open : (k : Kind) (x : List ℕ) → is_bounded k ≡ false → made Done unbounded ≡ made_bound (bound k x)
+pub made_open : (k : Kind) (x : List ℕ) → is_bounded k ≡ false → Ok (made_of unbounded) ≡ made_bound (bound k x)
 made_open Unbounded x e = refl
 made_open Included x e = cc
 made_open Excluded x e = cc
 
-pub made_long : (k : Kind) (x : List ℕ) → is_bounded k ≡ true → key_limit < length x → made LongKey unbounded ≡ made_bound (bound k x)
+pub made_long : (k : Kind) (x : List ℕ) → is_bounded k ≡ true → key_limit < length x → Err LongKey ≡ made_bound (bound k x)
 made_long Unbounded x e h = cc
 made_long Included x e h = rw (lt-ltb key_limit (length x) h)
 made_long Excluded x e h = rw (lt-ltb key_limit (length x) h)
 
-pub made_short : (k : Kind) (x : List ℕ) → is_bounded k ≡ true → length x ≤ key_limit → made Done (bound k x) ≡ made_bound (bound k x)
+pub made_short : (k : Kind) (x : List ℕ) → is_bounded k ≡ true → length x ≤ key_limit → Ok (made_of (bound k x)) ≡ made_bound (bound k x)
 made_short Unbounded x e h = cc
 made_short Included x e h = rw (le-ltb key_limit (length x) h)
 made_short Excluded x e h = rw (le-ltb key_limit (length x) h)
 
 -- a made bound as the struct that code fills
-abbrev pub filled : Making → Kind → ℕ → List ℕ → Made
-filled m k n z = record { making = m; bound = record { kind = k; len = n; bytes = z } }
+abbrev pub filled : Kind → ℕ → List ℕ → MadeBound
+filled k n z = record { kind = k; len = n; bytes = z }
 
-pub bytes_of : (k : Kind) (x : List ℕ) → is_bounded k ≡ true → filled Done k (length x) (padded x) ≡ made Done (bound k x)
+pub bytes_of : (k : Kind) (x : List ℕ) → is_bounded k ≡ true → filled k (length x) (padded x) ≡ made_of (bound k x)
 unfolding made_of
 bytes_of Unbounded x e = cc
 bytes_of Included x e = refl
@@ -71,11 +75,11 @@ bytes_of Excluded x e = refl
 pub front_bytes : (p : List ℕ) {y z : List ℕ} → length p ≤ key_limit → y ≡ padded [] → z ≡ paste y 0 p (length p) → z ≡ padded p
 front_bytes p h hy hz = hz ∙ ap (λ w. paste w 0 p (length p)) hy ∙ put_after [] p (omega arith)
 
-pub joined_bytes : (k : Kind) (p s : List ℕ) {y z : List ℕ} → is_bounded k ≡ true → length p + length s ≤ key_limit → y ≡ padded p → z ≡ paste y (length p) s (length s) → filled Done k (length p + length s) z ≡ made_bound (bound k (p ++ s))
+pub joined_bytes : (k : Kind) (p s : List ℕ) {y z : List ℕ} → is_bounded k ≡ true → length p + length s ≤ key_limit → y ≡ padded p → z ≡ paste y (length p) s (length s) → Ok (filled k (length p + length s) z) ≡ made_bound (bound k (p ++ s))
 joined_bytes k p s e h hy hz =
     let b = hz ∙ ap (λ w. paste w (length p) s (length s)) hy ∙ put_after p s h in
     let n = sym (length-append p s) in
-    (λ i. filled Done k (n i) (b i)) ∙ bytes_of k (p ++ s) e ∙ made_short k (p ++ s) e (omega (arith, length-append p s))
+    ap Ok ((λ i. filled k (n i) (b i)) ∙ bytes_of k (p ++ s) e) ∙ made_short k (p ++ s) e (omega (arith, length-append p s))
 
 -- a bound is its kind with its key
 pub bound_back : (b : Bound) → bound (kind_of b) (key_of b) ≡ b

@@ -11,8 +11,8 @@ use Rattle.keys.specs.Limit.{key_limit}
 use Rattle.kinds.specs.declared.kind.Kind.{Kind}
 use Rattle.kinds.specs.declared.kind.Kind.TheVariants.{Unbounded, Included, Excluded}
 use Rattle.kinds.specs.Bounds.{bound, included, is_bounded, unbounded}
-use Rattle.ranges.specs.declared.made.Making.TheVariants.{Done}
-use Rattle.ranges.specs.Made.{made, made_bound}
+use Rattle.std.specs.Prelude.{Ok}
+use Rattle.ranges.specs.Made.{made_of, made_bound}
 use Rattle.ranges.specs.Prefixes.{increment, end_at, sub_start, sub_end}
 use Rattle.ranges.proofs.IncrementLaws.{increment_fits}
 
@@ -36,18 +36,18 @@ start_open p s Unbounded e h = open_start p h
 start_open p s Included e h = cc
 start_open p s Excluded e h = cc
 
-pub start_all : (p s : List ℕ) (k : Kind) → is_bounded k ≡ false → length p ≡ 0 → made Done unbounded ≡ made_bound (sub_start p (bound k s))
+pub start_all : (p s : List ℕ) (k : Kind) → is_bounded k ≡ false → length p ≡ 0 → Ok (made_of unbounded) ≡ made_bound (sub_start p (bound k s))
 start_all [] s Unbounded e h = refl
 start_all (x ∷ p) s k e h = absurd (omega arith)
 start_all [] s Included e h = cc
 start_all [] s Excluded e h = cc
 
 -- an increment of a prefix within the limit is within it
-short_end : (o : Option (List ℕ)) → ((k : List ℕ) → o ≡ some k → length k ≤ key_limit) → made Done (end_at o) ≡ made_bound (end_at o)
+short_end : (o : Option (List ℕ)) → ((k : List ℕ) → o ≡ some k → length k ≤ key_limit) → Ok (made_of (end_at o)) ≡ made_bound (end_at o)
 short_end none h = refl
 short_end (some k) h = rw (le-ltb key_limit (length k) (h k refl))
 
-pub end_open : (p s : List ℕ) (k : Kind) → is_bounded k ≡ false → length p ≤ key_limit → made Done (end_at (increment p)) ≡ made_bound (sub_end p (bound k s))
+pub end_open : (p s : List ℕ) (k : Kind) → is_bounded k ≡ false → length p ≤ key_limit → Ok (made_of (end_at (increment p))) ≡ made_bound (sub_end p (bound k s))
 end_open p s Unbounded e h = short_end (increment p) (λ k f. omega (arith, increment_fits p k f))
 end_open p s Included e h = cc
 end_open p s Excluded e h = cc

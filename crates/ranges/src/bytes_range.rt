@@ -6,7 +6,7 @@ ghost use Rattle.ranges.specs.Prefixes.{increment, Raises, end_at, prefix_range,
 ghost use Rattle.ranges.specs.Made.{too_long, made_of, made_bound};
 ghost use Rattle.ranges.specs.Making.{new_of, made_increment, made_range};
 
-use crate::made::{MadeBound, RangeError};
+use crate::made::{MadeBound, RangeError, joined, with_bytes, zeros};
 use bounds::comparable_range::ComparableRange;
 use keys::KEY_LIMIT;
 use kinds::kind::Kind;
@@ -23,7 +23,7 @@ fn raised(prefix: &[u8]) -> MadeBound
     requires { (length prefix.now ≤ key_limit) × (0 < length prefix.now) × (get_or prefix.now (length prefix.now - 1) 0 < 255) }
     ensures { result ≡ made_of (end_at (increment prefix.now)) }
 {
-    let mut bytes = crate::made::with_bytes(crate::made::zeros(), 0, prefix);
+    let mut bytes = with_bytes(zeros(), 0, prefix);
     bytes[prefix.len() - 1] += 1;
     MadeBound {
         kind: Kind::Excluded,
@@ -60,12 +60,12 @@ fn start_of(prefix: &[u8], start: Kind, suffix: &[u8]) -> Result<MadeBound, Rang
     ensures { result ≡ made_bound (sub_start prefix.now (bound start suffix.now)) }
 {
     if start.bounded() {
-        return crate::made::joined(start, prefix, suffix);
+        return joined(start, prefix, suffix);
     }
     if prefix.len() == 0 {
         return Ok(MadeBound::unbounded());
     }
-    crate::made::joined(Kind::Included, prefix, &[])
+    joined(Kind::Included, prefix, &[])
 }
 
 // The end of a prefix's subrange: unbounded is up to the prefix's increment.
@@ -74,7 +74,7 @@ fn end_of(prefix: &[u8], end: Kind, suffix: &[u8]) -> Result<MadeBound, RangeErr
     ensures { result ≡ made_bound (sub_end prefix.now (bound end suffix.now)) }
 {
     if end.bounded() {
-        return crate::made::joined(end, prefix, suffix);
+        return joined(end, prefix, suffix);
     }
     Ok(increment(prefix))
 }

@@ -6,6 +6,7 @@ use native.Mathlib.Omega.{arith}
 use borrow.Rule.Slice.PartMut.{put_mid, same_len_mid}
 use lib.ListN.{length, take, drop, length-append, length-drop, drop_of_length-le, replicate, length-replicate}
 use lib.Seq.{paste, take_all, take-append-add, drop_at, length-take-le}
+use Rattle.std.specs.Prelude.{Result, Ok, Err, IsErr}
 use Rattle.machine.specs.State.{Bytes}
 use Rattle.machine.specs.Sets.{insert_all}
 use Rattle.codec.specs.Codec.{write_run}
@@ -14,9 +15,10 @@ use Rattle.codec.proofs.NumberLaws.{length_number}
 use Rattle.layout.specs.Offsets.{count_size, any_length}
 use Rattle.layout.specs.Keys.{set_form, list_form}
 use Rattle.layout.proofs.RowLaws.{row_inside, row_slice}
-use Rattle.tracks.specs.declared.sets.Inserted.{Inserted}
+use Rattle.tracks.specs.declared.sets.Set.{Set}
+use Rattle.tracks.specs.declared.sets.Space.{Space}
+use Rattle.tracks.specs.declared.sets.Full.{Full}
 use Rattle.tracks.specs.Sets.{key_codec, AllStand, Ready, InsertedIs}
-use Rattle.tracks.specs.declared.drafts.Drafted.{Drafted}
 use Rattle.tracks.specs.Drafts.{set_size, Begun, SetStands, DraftedIs}
 
 -- a draft as it begins
@@ -40,43 +42,48 @@ keys_put d x = put_mid count_size (length d - count_size) d x
 lent : (d : Bytes) → keys_in d ≡ drop count_size d
 lent d = take_all (length d - count_size) (drop count_size d) (omega (arith, length-drop count_size d))
 
-module _ {d list : Bytes} {used n marks bytes : ℕ} (b : Begun d used n list marks bytes) where
-  pub keys_ready : Ready (keys_in d) used n list marks bytes
+module _ {d list : Bytes} {set : Set} {space : Space} (b : Begun d set list space) where
+  pub keys_ready : Ready (keys_in d) set list space
   keys_ready = rw (lent d) b.keys
 
-  pub none_added : (x : Bytes) → InsertedIs (keys_in d) used n list marks bytes x Inserted.Full → DraftedIs d used n list marks bytes (keys_put d x) Drafted.Full
-  none_added x i = record { is = λ ks keys r c l. i.is ks keys (rw (lent d) r) c l; size = same_len_mid count_size (length d - count_size) d x i.size }
+  pub none_added : {x : Bytes} {e : Full} (r : Result Set Full) → InsertedIs (keys_in d) set list space x (Err e) → IsErr r → DraftedIs d set list space (keys_put d x) r
+  none_added {x} (Ok new) i z = cc
+  none_added {x} (Err e) i z = record { is = λ ks keys r c l. i.is ks keys (rw (lent d) r) c l; size = same_len_mid count_size (length d - count_size) d x i.size }
 
-  pub end_inside : (x : Bytes) (u k : ℕ) → InsertedIs (keys_in d) used n list marks bytes x (Inserted.All u k) → count_size + u ≤ length d
-  end_inside x u k i =
-      let a = i.is b.keys.ks b.keys.keys (rw (lent d) b.keys.row) b.keys.count b.keys.listed in
-      omega (arith, row_inside key_codec x 0 (insert_all b.keys.keys b.keys.ks) u a.row, i.size, ap length (lent d), length-drop count_size d, b.head)
+  module _ {x : Bytes} {new : Set} (i : InsertedIs (keys_in d) set list space x (Ok new)) where
+    pub end_inside : count_size + new.used ≤ length d
+    end_inside =
+        let a = i.is b.keys.ks b.keys.keys (rw (lent d) b.keys.row) b.keys.count b.keys.listed in
+        omega (arith, row_inside key_codec x 0 (insert_all b.keys.keys b.keys.ks) new.used a.row, i.size, ap length (lent d), length-drop count_size d, b.head)
 
-  -- the count is written over the first two bytes
-  counted : (x w : Bytes) (k : ℕ) → w ≡ paste (keys_put d x) 0 ((number count_size).write k) count_size → w ≡ (number count_size).write k ++ x
-  counted x w k e =
-      let t : take count_size ((number count_size).write k) ≡ (number count_size).write k = take_all count_size ((number count_size).write k) (omega (arith, length_number count_size k)) in
-      let z : drop (length d - count_size) (drop count_size d) ≡ [] = drop_of_length-le (drop count_size d) {i = length d - count_size} (omega (arith, length-drop count_size d)) in
-      let f : drop count_size (keys_put d x) ≡ x = drop_at (take count_size d) (x ++ drop (length d - count_size) (drop count_size d)) count_size (length-take-le count_size d b.head) ∙ rw z (append-nil x) in
-      e ∙ rw (t, f)
+    -- the count is written over the first two bytes
+    counted : (w : Bytes) (k : ℕ) → w ≡ paste (keys_put d x) 0 ((number count_size).write k) count_size → w ≡ (number count_size).write k ++ x
+    counted w k e =
+        let t : take count_size ((number count_size).write k) ≡ (number count_size).write k = take_all count_size ((number count_size).write k) (omega (arith, length_number count_size k)) in
+        let z : drop (length d - count_size) (drop count_size d) ≡ [] = drop_of_length-le (drop count_size d) {i = length d - count_size} (omega (arith, length-drop count_size d)) in
+        let f : drop count_size (keys_put d x) ≡ x = drop_at (take count_size d) (x ++ drop (length d - count_size) (drop count_size d)) count_size (length-take-le count_size d b.head) ∙ rw z (append-nil x) in
+        e ∙ rw (t, f)
 
-  pub all_added : (x w : Bytes) (u k : ℕ) → InsertedIs (keys_in d) used n list marks bytes x (Inserted.All u k) → w ≡ paste (keys_put d x) 0 ((number count_size).write k) count_size
-      → DraftedIs d used n list marks bytes w (Drafted.Set (count_size + u) k)
-  all_added x w u k i e =
-      let f : w ≡ (number count_size).write k ++ x = counted x w k e in
-      let lw : length w ≡ count_size + length x = ap length f ∙ length-append ((number count_size).write k) x ∙ rw (length_number count_size k) in
-      record {
-        is = λ ks keys r c l. stood ks (insert_all keys ks) f lw (i.is ks keys (rw (lent d) r) c l);
-        size = lw ∙ omega (arith, i.size, ap length (lent d), length-drop count_size d, b.head);
-      }
-    where
-      stood : (ks all : List Bytes) → w ≡ (number count_size).write k ++ x → length w ≡ count_size + length x → AllStand x ks all marks bytes u k → SetStands w ks all marks bytes (count_size + u) k
-      stood ks all f lw a =
-          let t : take (count_size + u) ((number count_size).write k ++ x) ≡ (number count_size).write k ++ take u x = ap (λ (m : ℕ). take (m + u) ((number count_size).write k ++ x)) (sym (length_number count_size k)) ∙ take-append-add ((number count_size).write k) x u in
-          record {
-            whole = ap (take (count_size + u)) f ∙ t ∙ rw (row_slice key_codec x 0 all u a.row, a.count) (sym (set_bytes_lem all));
-            inside = omega (arith, lw, row_inside key_codec x 0 all u a.row);
-            count = a.count;
-            few = a.few;
-            small = a.small;
-          }
+    pub all_added : {w : Bytes} → w ≡ paste (keys_put d x) 0 ((number count_size).write new.count) count_size → DraftedIs d set list space w (Ok (record { used = count_size + new.used; count = new.count }))
+    all_added {w} e =
+        let k : ℕ = new.count in
+        let f : w ≡ (number count_size).write k ++ x = counted w k e in
+        let lw : length w ≡ count_size + length x = ap length f ∙ length-append ((number count_size).write k) x ∙ rw (length_number count_size k) in
+        record {
+          is = λ ks keys r c l. stood ks (insert_all keys ks) f lw (i.is ks keys (rw (lent d) r) c l);
+          size = lw ∙ omega (arith, i.size, ap length (lent d), length-drop count_size d, b.head);
+        }
+      where
+        stood : (ks all : List Bytes) → w ≡ (number count_size).write new.count ++ x → length w ≡ count_size + length x → AllStand x ks all space new
+            → SetStands w ks all space (record { used = count_size + new.used; count = new.count })
+        stood ks all f lw a =
+            let k : ℕ = new.count in
+            let u : ℕ = new.used in
+            let t : take (count_size + u) ((number count_size).write k ++ x) ≡ (number count_size).write k ++ take u x = ap (λ (m : ℕ). take (m + u) ((number count_size).write k ++ x)) (sym (length_number count_size k)) ∙ take-append-add ((number count_size).write k) x u in
+            record {
+              whole = ap (take (count_size + u)) f ∙ t ∙ rw (row_slice key_codec x 0 all u a.row, a.count) (sym (set_bytes_lem all));
+              inside = omega (arith, lw, row_inside key_codec x 0 all u a.row);
+              count = a.count;
+              few = a.few;
+              small = a.small;
+            }

@@ -1,37 +1,40 @@
--- The search for a key's place in a set by a cursor: the key belongs behind all keys that the cursor has passed.
-use Prim.Native.Nat.{ℕ, ◌+◌, ◌≤◌}
+-- The search for a key's place in a set: the key belongs behind all keys that have been passed.
+use Prim.Native.Nat.{ℕ, ◌+◌, ◌-◌, ◌≤◌, ◌<◌}
 use mathlib.Core.Path.{◌≡◌, refl, sym, ap, ◌∙◌}
 use mathlib.Core.List.{List, [], ◌∷◌, ◌++◌, append_assoc}
 use mathlib.Core.Ordering.{Ordering, lt, eq, gt}
 use native.Mathlib.Omega.{arith}
 use lib.ListN.{length}
 use lib.Seq.{slice}
+use Rattle.std.specs.Prelude.{Some, None}
 use Rattle.keys.specs.Order.{order}
 use Rattle.machine.specs.State.{Bytes}
 use Rattle.machine.specs.Sets.{insert, stands}
 use Rattle.moves.proofs.SpliceLaws.{drop_take}
 use Rattle.layout.specs.Offsets.{length_size, any_length}
-use Rattle.layout.specs.Rows.{Rows, Ends}
+use Rattle.layout.specs.Rows.{Rows, Here, Ends}
 use Rattle.layout.proofs.OpenLaws.{open_key}
 use Rattle.places.specs.declared.cursor.Cursor.{Cursor}
-use Rattle.places.specs.Cursors.{past}
-use Rattle.places.proofs.SplitLaws.{Split, split_one, Search, Turn, search_start, search_over, search_next}
-use Rattle.tracks.specs.declared.sets.KeyPlace.{KeyPlace}
+use Rattle.places.proofs.SplitLaws.{Split, split_one, Search, Turn, turn, turn_here, search_start, search_over, search_next}
 use Rattle.tracks.specs.Sets.{key_codec, KeyPlaceIs}
 use Rattle.tracks.proofs.KeyLaws.{lent}
 
 abbrev pub Behind : Bytes → List Bytes → List Bytes → Type 0
 Behind key less more = insert key (less ++ more) ≡ less ++ insert key more
 
-abbrev pub KeySeek : Bytes → ℕ → Bytes → Cursor → Type 0
-KeySeek d n key c = Search key_codec (Behind key) d 0 n c
+-- turn i of n, at a place
+abbrev pub turn_at : ℕ → ℕ → ℕ → Cursor
+turn_at n at i = record { at = at; left = n - i }
 
-pub key_seek_start : {d : Bytes} {n : ℕ} {c : Cursor} (key : Bytes) → Rows key_codec d 0 n → (c.at ≡ 0) × (c.left ≡ n) → KeySeek d n key c
-key_seek_start key x q = search_start key_codec (Behind key) (λ ks. refl) x q
+pub record KeySeek (d : Bytes) (n : ℕ) (key : Bytes) (at i : ℕ) : Type 0 where
+  pub now : Search key_codec (Behind key) d 0 n (turn_at n at i)
 
-module _ {d : Bytes} {n : ℕ} (key : Bytes) {c : Cursor} where
-  found_before : {less more : List Bytes} → Split key_codec d 0 n less c more → Behind key less more → insert key more ≡ key ∷ more → KeyPlaceIs d n key (KeyPlace.Before c.at)
-  found_before {less} {more} w b h =
+pub key_seek_start : {d : Bytes} {n : ℕ} (key : Bytes) → Rows key_codec d 0 n → KeySeek d n key 0 0
+key_seek_start key x = record { now = search_start key_codec (Behind key) (λ ks. refl) x (refl, omega arith) }
+
+module _ {d : Bytes} {n : ℕ} (key : Bytes) where
+  found_before : {c : Cursor} {less more : List Bytes} → Split key_codec d 0 n less c more → Behind key less more → insert key more ≡ key ∷ more → KeyPlaceIs d n key (Some c.at)
+  found_before {c} {less} {more} w b h =
       record {
         is = λ ks e r l.
             let o = split_one key_codec w ks e r l in
@@ -45,46 +48,54 @@ module _ {d : Bytes} {n : ℕ} (key : Bytes) {c : Cursor} where
             };
       }
 
-  pub key_seek_end : KeySeek d n key c → c.left ≤ 0 → KeyPlaceIs d n key (KeyPlace.Before c.at)
+  pub key_seek_end : {at i : ℕ} → KeySeek d n key at i → n ≤ i → KeyPlaceIs d n key (Some at)
   unfolding insert
-  key_seek_end x h = let t = search_over key_codec (Behind key) x h in found_before t.walk t.holds refl
+  key_seek_end x h = let t = search_over key_codec (Behind key) x.now (omega (arith, h)) in found_before t.walk t.holds refl
 
-  module _ (t : Turn key_codec (Behind key) d 0 n c) {to : ℕ} (x : Ends key_codec d c.at to) where
-    end_is : to ≡ t.walk.after.row.end
-    end_is = x.is t.one t.walk.after.row.end t.walk.after.row.first
+  module _ {at i : ℕ} (x : KeySeek d n key at i) (h : i < n) where
+    t : Turn key_codec (Behind key) d 0 n (turn_at n at i)
+    t = turn key_codec (Behind key) x.now (omega arith)
 
-    pub key_inside : (c.at + length_size ≤ to) × (to ≤ length d)
-    key_inside = let o = open_key any_length t.walk.after.row.first in (omega (arith, end_is, o.ends), omega (arith, end_is, o.inside))
+    pub key_here : Here key_codec d at
+    key_here = turn_here key_codec (Behind key) t
 
-    -- the key as it is lent is the key whose turn it is
-    lent_is : lent d (c.at + length_size) to ≡ t.one
-    lent_is =
-        sym (drop_take (c.at + length_size) to d)
-        ∙ ap (λ (e : ℕ). slice (c.at + length_size) e d) end_is
-        ∙ (open_key any_length t.walk.after.row.first).bytes
+    module _ {to : ℕ} (y : Ends key_codec d at to) where
+      end_is : to ≡ t.walk.after.row.end
+      end_is = y.is t.one t.walk.after.row.end t.walk.after.row.first
 
-    insert_now : (o : Ordering) → order key (lent d (c.at + length_size) to) ≡ o
-        → insert key (t.one ∷ t.back) ≡ stands o (key ∷ t.one ∷ t.back) (t.one ∷ t.back) (t.one ∷ insert key t.back)
-    unfolding insert
-    insert_now o q = let f : order key t.one ≡ o = ap (order key) (sym lent_is) ∙ q in rw f
+      pub key_inside : (at + length_size ≤ to) × (to ≤ length d)
+      key_inside = let o = open_key any_length t.walk.after.row.first in (omega (arith, end_is, o.ends), omega (arith, end_is, o.inside))
 
-    pub key_seek_before : order key (lent d (c.at + length_size) to) ≡ lt → KeyPlaceIs d n key (KeyPlace.Before c.at)
-    key_seek_before q = found_before t.walk t.holds (insert_now lt q)
+      -- the key as it is lent is the key whose turn it is
+      lent_is : lent d (at + length_size) to ≡ t.one
+      lent_is =
+          sym (drop_take (at + length_size) to d)
+          ∙ ap (λ (e : ℕ). slice (at + length_size) e d) end_is
+          ∙ (open_key any_length t.walk.after.row.first).bytes
 
-    pub key_seek_there : order key (lent d (c.at + length_size) to) ≡ eq → KeyPlaceIs d n key KeyPlace.There
-    key_seek_there q =
-        record {
-          is = λ ks e r l.
-              let o = split_one key_codec t.walk ks e r l in
-              ap (insert key) o.0 ∙ t.holds ∙ ap (λ (y : List Bytes). t.front ++ y) (insert_now eq q) ∙ sym o.0;
-        }
+      insert_now : (o : Ordering) → order key (lent d (at + length_size) to) ≡ o → insert key (t.one ∷ t.back) ≡ stands o (key ∷ t.one ∷ t.back) (t.one ∷ t.back) (t.one ∷ insert key t.back)
+      unfolding insert
+      insert_now o q = let f : order key t.one ≡ o = ap (order key) (sym lent_is) ∙ q in rw f
 
-    still_behind : order key (lent d (c.at + length_size) to) ≡ gt → Behind key (t.front ++ (t.one ∷ [])) t.back
-    still_behind q =
-        ap (insert key) (append_assoc t.front (t.one ∷ []) t.back)
-        ∙ t.holds
-        ∙ ap (λ (y : List Bytes). t.front ++ y) (insert_now gt q)
-        ∙ sym (append_assoc t.front (t.one ∷ []) (insert key t.back))
+      pub key_seek_before : order key (lent d (at + length_size) to) ≡ lt → KeyPlaceIs d n key (Some at)
+      key_seek_before q = found_before t.walk t.holds (insert_now lt q)
 
-    pub key_seek_next : {b : Cursor} → order key (lent d (c.at + length_size) to) ≡ gt → b ≡ past c to → KeySeek d n key b
-    key_seek_next q j = search_next key_codec (Behind key) (Behind key) t x j (still_behind q)
+      pub key_seek_there : order key (lent d (at + length_size) to) ≡ eq → KeyPlaceIs d n key None
+      key_seek_there q =
+          record {
+            is = λ ks e r l.
+                let o = split_one key_codec t.walk ks e r l in
+                ap (insert key) o.0 ∙ t.holds ∙ ap (λ (z : List Bytes). t.front ++ z) (insert_now eq q) ∙ sym o.0;
+          }
+
+      still_behind : order key (lent d (at + length_size) to) ≡ gt → Behind key (t.front ++ (t.one ∷ [])) t.back
+      still_behind q =
+          ap (insert key) (append_assoc t.front (t.one ∷ []) t.back)
+          ∙ t.holds
+          ∙ ap (λ (z : List Bytes). t.front ++ z) (insert_now gt q)
+          ∙ sym (append_assoc t.front (t.one ∷ []) (insert key t.back))
+
+      pub key_seek_next : order key (lent d (at + length_size) to) ≡ gt → KeySeek d n key to (i + 1)
+      key_seek_next q =
+          let e : n - (i + 1) ≡ n - i - 1 = omega arith in
+          record { now = search_next key_codec (Behind key) (Behind key) t y (ap (λ (k : ℕ). record { at = to; left = k }) e) (still_behind q) }

@@ -35,10 +35,17 @@ KeyPlaceIn d key (Some at) ks e = Between d key at ks e
 pub record KeyPlaceIs (d : Bytes) (count : ℕ) (key : Bytes) (r : Option ℕ) : Type 0 where
   pub is : (ks : List Bytes) (e : ℕ) → Row key_codec d 0 ks e → length ks ≡ count → KeyPlaceIn d key r ks e
 
--- what a mark with so many key bytes leaves of a space, or which of the two it lacks
-abbrev pub Taken : Space → ℕ → Result Space Full → Type 0
-Taken s size (Ok r) = (s.marks ≡ r.marks + 1) × (s.bytes ≡ r.bytes + size)
-Taken s size (Err e) = (s.marks ≡ 0) ⊎ (s.bytes < size)
+-- what a mark with so many key bytes leaves of a space, or that one of the two is too little
+pub record Spent (space : Space) (size : ℕ) (rest : Space) : Type 0 where
+  pub marks : space.marks ≡ rest.marks + 1
+  pub bytes : space.bytes ≡ rest.bytes + size
+
+pub record Lacks (space : Space) (size : ℕ) : Type 0 where
+  pub either : (space.marks ≡ 0) ⊎ (space.bytes < size)
+
+abbrev pub SpendIs : Space → ℕ → Result Space Full → Type 0
+SpendIs space size (Ok rest) = Spent space size rest
+SpendIs space size (Err e) = Lacks space size
 
 -- the set stands in a draft, a length can tell of each of the list's keys, and the draft has bytes for all that there is space for
 pub record Ready (d : Bytes) (set : Set) (list : Bytes) (space : Space) : Type 0 where

@@ -61,7 +61,7 @@ pub fn track_range(room: &mut [u8], v: View, id: &[u8], bounds: &[u8]) -> Result
     let Ok(txn) = find_txn(room, v.middle, v.active, id) else {
         return Ok(Outcome::Absent(0));
     };
-    Space::left(v).take(size)?;
+    Space::left(v).spend(size)?;
     append_range(room, v.used, txn, bounds);
     Ok(Outcome::Done(1))
 }

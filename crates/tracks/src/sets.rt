@@ -2,7 +2,7 @@
 ghost use Rattle.std.specs.Prelude.{◌≡◌, ◌+◌, ◌≤◌};
 ghost use Rattle.machine.specs.State.{base};
 ghost use Rattle.layout.specs.Rows.{Rows};
-ghost use Rattle.tracks.specs.Sets.{key_codec, KeyPlaceIs, Taken, Ready, InsertedIs};
+ghost use Rattle.tracks.specs.Sets.{key_codec, KeyPlaceIs, SpendIs, Ready, InsertedIs};
 
 use fields::next_key;
 use layout::LENGTH;
@@ -42,9 +42,9 @@ impl Space {
         }
     }
 
-    // What is left behind a mark with so many key bytes.
-    pub fn take(self, size: usize) -> Result<Self, Full>
-        ensures { Taken self size result }
+    // What is left when a mark with so many key bytes is put in.
+    pub fn spend(self, size: usize) -> Result<Self, Full>
+        ensures { SpendIs self size result }
     {
         if self.marks == 0 || self.bytes < size {
             return Err(Full);
@@ -77,18 +77,16 @@ fn find_place(draft: &[u8], count: usize, key: &[u8]) -> Option<usize>
 }
 
 // Puts the keys of a list into a set in a draft, as far as there is space for new ones.
-pub fn insert_all(draft: &mut [u8], set: Set, list: &[u8], space: Space) -> Result<Set, Full>
+pub fn insert_all(draft: &mut [u8], mut set: Set, list: &[u8], mut space: Space) -> Result<Set, Full>
     requires { Ready draft.old set list.now space }
     ensures { InsertedIs draft.old set list.now space draft.new result }
 {
-    let mut set = set;
-    let mut space = space;
     let mut at = 0;
     // The list reads to its end, as `Ready` says.
     while let Some(key) = next_key(list, at).unwrap() {
         if let Some(place) = find_place(draft, set.count, &list[key.from..key.to]) {
             let size = key.to - key.from;
-            space = space.take(size)?;
+            space = space.spend(size)?;
             splice(draft, set.used, place, 0, &list[key.from - LENGTH..key.to]);
             set = Set {
                 used: set.used + LENGTH + size,

@@ -1,24 +1,28 @@
 -- By the field's tag: a bound of that kind, where an unbounded one has no payload.
-use Rattle.fields.proofs.Bounds.{bounds_cut, bounds_end, unbounded_here, unbounded_full, included_here, excluded_here, tag_unknown}
+use mathlib.Core.Bool.{true≢false}
+use mathlib.Core.Path.{sym, ◌∙◌}
+use Rattle.fields.specs.Forms.{BoundFieldIs}
+use Rattle.fields.proofs.Errs.{by_err}
+use Rattle.fields.proofs.Bounds.{bounds_cut, bounds_end, bound_here, unbounded_full, tag_unknown}
 use Rattle.fields.proofs.bound_at.Goals as goal
+use Rattle.fields.proofs.bound_at.Goals.{else-not-bounded-via-then-not-bounded+else-key, else-not-bounded-via-else-not-bounded}
 
-pub returns-then-from-to : goal.returns-then-from-to
-returns-then-from-to c = unbounded_full c.in-At.ensures c.if-tag-eq-UNBOUNDED.true c.if-from-to.true
+pub returns-in_err-field_at : goal.returns-in_err-field_at
+returns-in_err-field_at c = by_err (BoundFieldIs c.args.bytes.now c.args.at) _ c.from_residual.ensures.0 λ e. bounds_cut c.in_err-field_at.ensures
 
-pub returns-then-tag-eq-UNBOUNDED : goal.returns-then-tag-eq-UNBOUNDED
-returns-then-tag-eq-UNBOUNDED c = unbounded_here c.in-At.ensures c.if-tag-eq-UNBOUNDED.true c.if-from-to.false
+pub returns-in_err-field : goal.returns-in_err-field
+returns-in_err-field c =
+    by_err (BoundFieldIs c.args.bytes.now c.args.at) _ c.from_residual-in_err-field.ensures.0 λ e. bounds_end (rw c.in_err-field.ensures.ok_part at c.in_ok-field_at.ensures)
 
-pub returns-then-tag-eq-INCLUDED : goal.returns-then-tag-eq-INCLUDED
-returns-then-tag-eq-INCLUDED c = included_here c.in-At.ensures c.if-tag-eq-INCLUDED.true
+pub returns-in_err-kind : goal.returns-in_err-kind
+returns-in_err-kind c =
+    by_err (BoundFieldIs c.args.bytes.now c.args.at) _ c.from_residual-in_err-kind.ensures.0 λ e. tag_unknown (rw c.in_ok-field.ensures.ok_part at c.in_ok-field_at.ensures) c.in_err-kind.ensures.1
 
-pub returns-then-tag-eq-EXCLUDED : goal.returns-then-tag-eq-EXCLUDED
-returns-then-tag-eq-EXCLUDED c = excluded_here c.in-At.ensures c.if-tag-eq-EXCLUDED.true
+pub returns-then-key : goal.returns-then-key
+returns-then-key c =
+    unbounded_full (rw c.in_ok-field.ensures.ok_part at c.in_ok-field_at.ensures) c.in_ok-kind.kind c.in_ok-kind.ensures (sym c.if-not-bounded.ensures) c.if-key.true
 
-pub returns-else-tag-eq-EXCLUDED : goal.returns-else-tag-eq-EXCLUDED
-returns-else-tag-eq-EXCLUDED c = tag_unknown c.in-At.ensures c.if-tag-eq-UNBOUNDED.false c.if-tag-eq-INCLUDED.false c.if-tag-eq-EXCLUDED.false
-
-pub returns-in-End : goal.returns-in-End
-returns-in-End c = bounds_end c.in-End.ensures
-
-pub returns-in-Cut : goal.returns-in-Cut
-returns-in-Cut c = bounds_cut c.in-Cut.ensures
+pub returns : goal.returns
+returns c =
+    bound_here (rw c.in_ok-field.ensures.ok_part at c.in_ok-field_at.ensures) c.in_ok-kind.kind c.in_ok-kind.ensures
+    λ b. elim c.else-not-bounded.branch [ else-not-bounded-via-then-not-bounded+else-key w ↦ w.if-key.false | else-not-bounded-via-else-not-bounded w ↦ absurd (true≢false (w.if-not-bounded.ensures ∙ b)) ]

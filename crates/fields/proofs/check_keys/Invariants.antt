@@ -7,8 +7,8 @@ use Rattle.fields.specs.Forms.{form_of}
 use Rattle.fields.proofs.Keys.{form_after}
 use Rattle.fields.proofs.check_keys.Given as goal
 
-abbrev pub invariant-loop-from : goal.invariant-loop-from
-invariant-loop-from l = form_of (key_list l.list) ≡ form_after l.short (key_list (drop l.at l.list))
+abbrev pub invariant-loop-key : goal.invariant-loop-key
+invariant-loop-key l = form_of (key_list l.list) ≡ form_after l.short (key_list (drop l.at l.list))
 
-abbrev pub decreases-loop-from : goal.decreases-loop-from
-decreases-loop-from l = length l.list - l.at
+abbrev pub decreases-loop-key : goal.decreases-loop-key
+decreases-loop-key l = length l.list - l.at

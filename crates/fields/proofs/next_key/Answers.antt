@@ -1,15 +1,14 @@
 -- A field with a key's tag is a key; another field or a cut one breaks the list.
+use Rattle.fields.specs.Forms.{NextIs}
+use Rattle.fields.proofs.Errs.{by_err}
 use Rattle.fields.proofs.Keys.{keys_cut, key_here, key_broken}
 use Rattle.fields.proofs.next_key.Goals as goal
 
-pub returns-then-tag-eq-KEY : goal.returns-then-tag-eq-KEY
-returns-then-tag-eq-KEY c = key_here c.in-At.ensures c.if-tag-eq-KEY.true
+pub returns-in_err-field : goal.returns-in_err-field
+returns-in_err-field c = by_err (NextIs c.args.list.now c.args.at) _ c.from_residual.ensures.0 λ e. keys_cut c.in_err-field.ensures
 
-pub returns-else-tag-eq-KEY : goal.returns-else-tag-eq-KEY
-returns-else-tag-eq-KEY c = key_broken c.in-At.ensures c.if-tag-eq-KEY.false
+pub returns-then-field-ne-KEY : goal.returns-then-field-ne-KEY
+returns-then-field-ne-KEY c = key_broken (rw c.in-Some.is at c.in_ok-field.ensures) c.if-field-ne-KEY.true
 
-pub returns-in-End : goal.returns-in-End
-returns-in-End c = c.in-End.ensures
-
-pub returns-in-Cut : goal.returns-in-Cut
-returns-in-Cut c = keys_cut c.in-Cut.ensures
+pub returns : goal.returns
+returns c = key_here (rw c.in-Some.is at c.in_ok-field.ensures) c.if-field-ne-KEY.false

@@ -1,7 +1,8 @@
 -- Where the last byte is ff, the increment of the prefix without it is the increment of all.
 use native.Mathlib.Omega.{arith}
+use borrow.Author.Rules.{rules}
 use Rattle.ranges.proofs.IncrementLaws.{raises_shorter}
 use Rattle.ranges.proofs.bytes_range.+increment_len.Goals as goal
 
-pub returns-then-prefix-last : goal.returns-then-prefix-last
-returns-then-prefix-last t c = raises_shorter _ (omega arith) c.if-prefix-last.true c.increment_len.ensures
+pub returns-in-255 : goal.returns-in-255
+returns-in-255 t c = raises_shorter _ (omega arith) (search rules) c.increment_len.ensures

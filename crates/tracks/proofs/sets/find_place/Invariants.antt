@@ -1,9 +1,6 @@
--- The key belongs behind those that the cursor has passed.
+-- The key belongs behind those that have been passed.
 use Rattle.tracks.proofs.PlaceLaws.{KeySeek}
 use Rattle.tracks.proofs.sets.find_place.Given as goal
 
-abbrev pub invariant-loop-c : goal.invariant-loop-c
-invariant-loop-c l = KeySeek l.draft l.count l.key l.c
-
-abbrev pub decreases-loop-c : goal.decreases-loop-c
-decreases-loop-c l = l.c.left
+abbrev pub invariant-loop : goal.invariant-loop
+invariant-loop l = KeySeek l.draft l.count l.key l.at l.counter
