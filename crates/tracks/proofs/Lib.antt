@@ -11,3 +11,4 @@ pub mod BoundsLaws
 pub mod AppendLaws
 pub mod JudgeLaws
 pub mod RangeLaws
+pub mod RefusedLaws
