@@ -13,7 +13,7 @@ use Rattle.machine.specs.Serve.{verdict}
 use Rattle.layout.specs.Offsets.{id_size, entries_at}
 use Rattle.layout.specs.Rooms.{Served}
 use Rattle.layout.proofs.LoadLaws.{refuse, look, look_absent}
-use Rattle.core.specs.Int.{from_bool}
+use mir.Val.{bool_byte}
 use Rattle.std.specs.Prelude.{Ok, Err}
 use Rattle.fields.specs.declared.Span.{Span}
 use Rattle.places.specs.Finds.{Found, LowestIs, lowest}
@@ -29,7 +29,7 @@ use Rattle.answers.proofs.FoundLaws.{not_found, here, found}
 -- ---- check
 
 -- the verdict as a number
-pub verdict_is : (b : Bool) → from_bool b ≡ verdict b
+pub verdict_is : (b : Bool) → bool_byte b ≡ verdict b
 verdict_is true = refl
 verdict_is false = refl
 
