@@ -21,7 +21,7 @@ byte bs i j e h = rw e (drop-cons bs i 0 h)
 abbrev pub from_on : List ℕ → ℕ → List ℕ
 from_on bs at = take (length bs - at) (drop at bs)
 
-byte_from : (bs : List ℕ) (at k : ℕ) → get_or (from_on bs at) k 0 ≡ get_or bs (at + k) 0
+pub byte_from : (bs : List ℕ) (at k : ℕ) → get_or (from_on bs at) k 0 ≡ get_or bs (at + k) 0
 byte_from bs at k = ap (λ (l : List ℕ). get_or l k 0) (part_to_end bs at) ∙ get_or-drop at bs k 0
 
 take_of_drop : (f n : ℕ) (bs : List ℕ) → f ≤ length bs → take n (drop f bs) ≡ slice f (f + n) bs

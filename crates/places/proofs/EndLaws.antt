@@ -1,22 +1,21 @@
 -- Where a record ends by its parts, and going from one record of a row to the next.
 use Prim.Native.Nat.{ℕ, ◌+◌, ◌≤◌, ◌<◌}
-use mathlib.Core.Path.{◌≡◌, refl, ◌∙◌}
-use mathlib.Core.List.{List, [], ◌∷◌}
+use mathlib.Core.Path.{◌≡◌, refl, sym, ◌∙◌}
+use mathlib.Core.Bool.{Bool}
+use mathlib.Core.List.{List}
 use native.Mathlib.Omega.{arith}
 use Rattle.kinds.specs.Bounds.{Bound}
 use Rattle.codec.specs.Codec.{Codec}
 use Rattle.codec.specs.Formats.{number}
 use Rattle.codec.specs.Stands.{Stands}
 use Rattle.machine.specs.State.{Bytes, Txn}
-use Rattle.layout.specs.Offsets.{length_size, tag_size, writes_at, bound_key_at, any_length}
+use Rattle.layout.specs.Offsets.{count_size, length_size, tag_size, writes_at, bound_key_at, any_length}
 use Rattle.layout.specs.Keys.{key_form, set_form, below, bound_form, range_form, ranges_form, any_order}
 use Rattle.layout.specs.Records.{txn_form}
-use Rattle.layout.specs.Rows.{Fills, Here, Ends}
+use Rattle.layout.specs.Rows.{Fills, Here, Rows, Ends}
 use Rattle.layout.proofs.FillLaws.{fills_one, number_read_is}
-use Rattle.layout.proofs.OpenLaws.{open_key, open_set, open_bound, open_ranges, open_txn}
-use Rattle.places.specs.declared.cursor.Cursor.{Cursor}
-use Rattle.places.specs.Cursors.{past, CountAt, Before}
-use Rattle.places.proofs.CursorLaws.{before_here, before_next, before_list}
+use Rattle.layout.proofs.OpenLaws.{open_key, open_set, open_bound, open_ranges, open_txn, OpenList}
+use Rattle.places.specs.Rows.{RowEnds}
 
 pub here_of : {A : Type 0} (C : Codec A) {s : List ℕ} {at e : ℕ} {a : A} → Fills C s at a e → Here C s at
 here_of C {e = e} {a = a} p = record { val = a; end = e; fills = p }
@@ -48,51 +47,17 @@ ranges_fills p x y =
 pub ranges_here : {s : List ℕ} {at r q : ℕ} → Here (txn_form any_length) s at → Ends (set_form any_length) s (at + writes_at) r → Ends (set_form any_length) s r q → Here (ranges_form any_length) s q
 ranges_here h x y = here_of (ranges_form any_length) (ranges_fills h.fills x y)
 
--- the walk over a record that ends where the last of its records ends
-module _ {A : Type 0} (C : Codec A) where
-  pub record Walk {B : Type 0} (D : Codec B) (s : List ℕ) (at : ℕ) (c : Cursor) : Type 0 where
-    pub val : B
-    pub end : ℕ
-    pub whole : Fills D s at val end
-    pub rest : List A
-    pub left : Before C s c rest
-    pub ends : left.end ≡ end
-
-  module _ {B : Type 0} {D : Codec B} {s : List ℕ} {at : ℕ} {c : Cursor} (w : Walk D s at c) where
-    pub walk_here : 0 < c.left → Here C s c.at
-    walk_here h = go w.rest w.left
-      where
-        go : (xs : List A) → Before C s c xs → Here C s c.at
-        go [] b = absurd (omega (arith, b.count))
-        go (x ∷ xs) b = before_here C s c x xs b
-
-    pub walk_next : {d : Cursor} {r : ℕ} → 0 < c.left → Ends C s c.at r → d ≡ past c r → Walk D s at d
-    unfolding before_next
-    walk_next {d} {r} h e q = go w.rest w.left w.ends
-      where
-        go : (xs : List A) (b : Before C s c xs) → b.end ≡ w.end → Walk D s at d
-        go [] b z = absurd (omega (arith, b.count))
-        go (x ∷ xs) b z = record { val = w.val; end = w.end; whole = w.whole; rest = xs; left = before_next C s c x xs d r b e q; ends = z }
-
-    pub walk_ends : c.left ≤ 0 → Ends D s at c.at
-    walk_ends h = go w.rest w.left w.ends
-      where
-        go : (xs : List A) (b : Before C s c xs) → b.end ≡ w.end → Ends D s at c.at
-        go [] b z = ends_at D w.whole (b.row.0 ∙ z)
-        go (x ∷ xs) b z = absurd (omega (arith, b.count))
-
 pub key_end : (m : ℕ) {s : List ℕ} {at n f : ℕ} {k : Bytes} → Fills (key_form m) s at k f → Stands (number length_size) s at n (at + length_size) → at + length_size + n ≡ f
 key_end m p w = let o = open_key m p in omega (arith, number_read_is length_size o.length_at w)
 
 pub bound_end : (m : ℕ) {s : List ℕ} {at n f : ℕ} {b : Bound} → Fills (bound_form m) s at b f → Stands (number length_size) s (at + tag_size) n (at + tag_size + length_size) → at + bound_key_at + n ≡ f
 bound_end m p w = omega (arith, key_end _ (open_bound m p).key w)
 
-pub set_walk : (m : ℕ) {s : List ℕ} {at : ℕ} {c : Cursor} (x : Here (set_form m) s at) → CountAt s at c → Walk (key_form m) (set_form m) s at c
-unfolding before_list
-set_walk m {s} {at} {c} x n =
-    record { val = x.val; end = x.end; whole = x.fills; rest = x.val; left = before_list (key_form m) s c below at x.val x.end (open_set m x.fills) n; ends = refl }
+-- a list ends where its records end, which stand behind its count
+module _ {A : Type 0} (C : Codec A) (before : A → A → Bool) where
+  pub list_rows : {s : List ℕ} {at e n : ℕ} {xs : List A} → OpenList C before s at xs e → Stands (number count_size) s at n (at + count_size) → Rows C s (at + count_size) n
+  list_rows {e = e} {xs = xs} o w = record { vals = xs; end = e; row = o.row; count = sym (number_read_is count_size o.count_at w) }
 
-pub ranges_walk : (m : ℕ) {s : List ℕ} {at : ℕ} {c : Cursor} (x : Here (ranges_form m) s at) → CountAt s at c → Walk (range_form m) (ranges_form m) s at c
-unfolding before_list
-ranges_walk m {s} {at} {c} x n =
-    record { val = x.val; end = x.end; whole = x.fills; rest = x.val; left = before_list (range_form m) s c any_order at x.val x.end (open_ranges m x.fills) n; ends = refl }
+  pub list_ends : {B : Type 0} (D : Codec B) {s : List ℕ} {at e n r : ℕ} {xs : List A} {b : B} → Fills D s at b e → OpenList C before s at xs e → Stands (number count_size) s at n (at + count_size)
+      → RowEnds C s (at + count_size) n r → Ends D s at r
+  list_ends D {e = e} {xs = xs} p o w x = ends_at D p (x.is xs e o.row (sym (number_read_is count_size o.count_at w)))

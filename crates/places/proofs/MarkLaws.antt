@@ -1,18 +1,18 @@
 -- Keys and bounds where they stand: what the bytes there say of them.
 use Prim.Native.Nat.{ℕ, ◌+◌, ◌-◌, ◌≤◌, ◌<◌}
 use mathlib.Core.Path.{◌≡◌, refl, sym, ap, ap₂, ◌∙◌}
-use mathlib.Core.Bool.{Bool, cond}
+use mathlib.Core.Bool.{Bool}
 use mathlib.Core.List.{List}
 use native.Mathlib.Omega.{arith}
-use lib.Dec.{eqb}
 use lib.ListN.{length, get_or, take, drop}
-use Rattle.kinds.specs.Bounds.{Bound, bound}
+use Rattle.std.specs.Prelude.{Result, Ok, Err, IsOk}
+use Rattle.kinds.specs.Bounds.{Bound, bound, bound_tag, NoKind, TagRead}
+use Rattle.kinds.specs.declared.kind.UnknownTag.{UnknownTag}
 use Rattle.bounds.specs.Ranges.{Range, range, range_of, holds}
 use Rattle.bounds.specs.declared.comparable_range.ComparableRange.{ComparableRange}
 use Rattle.kinds.specs.declared.kind.Kind.{Kind}
 use Rattle.kinds.specs.declared.kind.Kind.TheVariants.{Unbounded, Included, Excluded}
 use Rattle.ranges.specs.Made.{key_of, kind_of}
-use Rattle.fields.specs.Fields.{bound_tag}
 use Rattle.machine.specs.State.{Bytes}
 use Rattle.machine.specs.Sets.{equal}
 use Rattle.layout.specs.Offsets.{length_size, tag_size, bound_key_at, any_length}
@@ -60,23 +60,33 @@ module _ (s : List ℕ) (at : ℕ) where
 pub is_key : (s : List ℕ) (c : Cursor) (r : ℕ) (k : Bytes) (b : Bool) → Ends (key_form any_length) s c.at r → b ≡ equal k (take (r - (c.at + length_size)) (drop (c.at + length_size) s)) → IsKey s c k b
 is_key s c r k b n h = record { is = λ m e p. h ∙ ap (equal k) (key_part s c.at r m e n p) }
 
--- the kind of a tag
-abbrev pub tag_kind : ℕ → Kind
-tag_kind t = cond (eqb t (bound_tag Unbounded)) Unbounded (cond (eqb t (bound_tag Included)) Included Excluded)
+-- the tag of a bound is one of the three, and tells its kind
+tag_is : (s : List ℕ) (at : ℕ) (b : Bound) (e : ℕ) → ((i : ℕ) → get_or s i 0 < 256) → Fills (bound_form any_length) s at b e → get_or s at 0 ≡ bound_tag (kind_of b)
+tag_is s at b e small p = let o = open_bound any_length p in number_read_is tag_size o.tag_at (stands_number tag_size s at _ o.tag_at.inside small refl)
 
-tag_kind_lem : (k : Kind) → tag_kind (bound_tag k) ≡ k
-tag_kind_lem Unbounded = refl
-tag_kind_lem Included = refl
-tag_kind_lem Excluded = refl
+one_kind : (a b : Kind) → bound_tag a ≡ bound_tag b → a ≡ b
+one_kind Unbounded Unbounded e = refl
+one_kind Unbounded Included e = absurd (omega arith)
+one_kind Unbounded Excluded e = absurd (omega arith)
+one_kind Included Unbounded e = absurd (omega arith)
+one_kind Included Included e = refl
+one_kind Included Excluded e = absurd (omega arith)
+one_kind Excluded Unbounded e = absurd (omega arith)
+one_kind Excluded Included e = absurd (omega arith)
+one_kind Excluded Excluded e = refl
 
-pub kind_is : (s : List ℕ) (at : ℕ) (k : Kind) → ((i : ℕ) → get_or s i 0 < 256) → k ≡ tag_kind (get_or s at 0) → KindAt s at k
-kind_is s at k small t = record { is = tagged }
-  where
-    tagged : (b : Bound) (e : ℕ) → Fills (bound_form any_length) s at b e → k ≡ kind_of b
-    tagged b e p =
-        let o = open_bound any_length p in
-        let tag : get_or s at 0 ≡ bound_tag (kind_of b) = number_read_is tag_size o.tag_at (stands_number tag_size s at _ o.tag_at.inside small refl) in
-        t ∙ ap tag_kind tag ∙ tag_kind_lem (kind_of b)
+no_kind : (k : Kind) {t : ℕ} → NoKind t → t ≡ bound_tag k → ⊥
+no_kind Unbounded n e = n.not_unbounded e
+no_kind Included n e = n.not_included e
+no_kind Excluded n e = n.not_excluded e
+
+module _ (s : List ℕ) (at : ℕ) (small : (i : ℕ) → get_or s i 0 < 256) where
+  pub kind_read : (r : Result Kind UnknownTag) → Here (bound_form any_length) s at → TagRead (get_or s at 0) r → IsOk r
+  kind_read (Ok k) h t = refl
+  kind_read (Err u) h t = absurd (no_kind (kind_of h.val) t.1 (tag_is s at h.val h.end small h.fills))
+
+  pub kind_is : (r : Result Kind UnknownTag) (k : Kind) → TagRead (get_or s at 0) r → r ≡ Ok k → KindAt s at k
+  kind_is r k t e = record { is = λ b f p. one_kind k (kind_of b) (sym (rw e at t) ∙ tag_is s at b f small p) }
 
 -- the two bounds of a range
 module _ (s : List ℕ) (at : ℕ) where

@@ -1,5 +1,5 @@
 -- A search through a row of records by a cursor: those that it has passed, those that are left, and a fact P of both.
-use Prim.Native.Nat.{ℕ, ◌≤◌, ◌<◌}
+use Prim.Native.Nat.{ℕ, ◌+◌, ◌-◌, ◌≤◌, ◌<◌}
 use mathlib.Core.Path.{◌≡◌, refl, sym, ◌∙◌}
 use mathlib.Core.List.{List, [], ◌∷◌, ◌++◌, append_assoc}
 use native.Mathlib.Omega.{arith}
@@ -9,7 +9,15 @@ use Rattle.layout.specs.Rows.{Row, Rows, Here, Ends}
 use Rattle.layout.proofs.RowLaws.{row_inside, row_one, row_join}
 use Rattle.places.specs.declared.cursor.Cursor.{Cursor}
 use Rattle.places.specs.Cursors.{past, Before}
+use Rattle.places.specs.Rows.{RowEnds}
 use Rattle.places.proofs.CursorLaws.{before_here, before_next}
+
+-- where i of n records are passed, and the next one stands at a place
+abbrev pub to_go : ℕ → ℕ → ℕ → Cursor
+to_go n i at = record { at = at; left = n - i }
+
+pub one_less : (n i r : ℕ) → to_go n (i + 1) r ≡ past (to_go n i r) r
+one_less n i r = let e : n - (i + 1) ≡ n - i - 1 = omega arith in rw e
 
 module _ {A : Type 0} (C : Codec A) where
   pub record Split (s : List ℕ) (at n : ℕ) (front : List A) (c : Cursor) (rest : List A) : Type 0 where
@@ -86,3 +94,13 @@ module _ {A : Type 0} (C : Codec A) where
             };
             holds = h;
           }
+
+-- a row that is passed ends where its last record does
+module _ {A : Type 0} (C : Codec A) where
+  abbrev pub Passing : (s : List ℕ) (at n : ℕ) → Cursor → Type 0
+  Passing s at n c = Search C (λ front rest. Unit {0}) s at n c
+
+  pub row_ends : {s : List ℕ} {at n : ℕ} {c : Cursor} → Search C (λ front rest. Unit {0}) s at n c → c.left ≤ 0 → RowEnds C s at n c.at
+  row_ends x h =
+      let w = (search_over C (λ front rest. Unit {0}) x h).walk in
+      record { is = λ xs e r q. w.after.row.0 ∙ sym (split_one C w xs e r q).1 }

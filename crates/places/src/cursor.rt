@@ -8,7 +8,6 @@ ghost use Rattle.places.specs.Cursors.{past, CountAt, KindAt, IsKey, Holds};
 use crate::skips::{bound_past, key_past};
 use bounds::comparable_range::ComparableRange;
 use codec::numbers::read_two;
-use fields::{INCLUDED, UNBOUNDED};
 use kinds::kind::Kind;
 use layout::{BOUND, COUNT, LENGTH};
 
@@ -80,12 +79,5 @@ fn kind_at(room: &[u8], at: usize) -> Kind
     requires { Here (bound_form any_length) room.now at }
     ensures { KindAt room.now at result }
 {
-    let tag = room[at];
-    if tag == UNBOUNDED {
-        return Kind::Unbounded;
-    }
-    if tag == INCLUDED {
-        return Kind::Included;
-    }
-    Kind::Excluded
+    Kind::try_from(room[at]).unwrap()
 }

@@ -1,6 +1,6 @@
 -- An entry stands where its sequence and its set do, a transaction where its id, its start, its sets and its ranges do; for any key limit.
 use Prim.Native.Nat.{ℕ, ◌+◌, ◌-◌, ◌≤◌, ◌<◌}
-use mathlib.Core.Path.{◌≡◌, refl, sym, ap, ap₂, ◌∙◌}
+use mathlib.Core.Path.{◌≡◌, refl, ap, ap₂, ◌∙◌}
 use mathlib.Core.Bool.{true}
 use mathlib.Core.List.{List}
 use native.Mathlib.Omega.{arith}
@@ -9,7 +9,6 @@ use lib.Dec.{leb}
 use lib.ListN.{length, take, drop, length-drop}
 use lib.Seq.{drop-drop}
 use Rattle.machine.specs.State.{Txn}
-use Rattle.moves.proofs.SpliceLaws.{drop_take}
 use Rattle.codec.specs.Codec.{item}
 use Rattle.codec.specs.Formats.{number, raw, bind, via}
 use Rattle.codec.specs.Stands.{Stands}
@@ -19,13 +18,12 @@ use Rattle.layout.specs.Keys.{set_form, ranges_form}
 use Rattle.layout.specs.Records.{entry_form, TxnHead, txn_head_form, head_of, to_txn, txn_form}
 use Rattle.layout.proofs.SizeLaws.{txn_length}
 use Rattle.layout.proofs.MachineLaws.{id_long}
-use Rattle.layout.proofs.OpenLaws.{open_txn}
 use Rattle.room.specs.declared.tally.Tally.{Tally}
-use Rattle.room.specs.Counts.{a_set, some_ranges, an_entry, a_txn, plus}
+use Rattle.room.specs.Counts.{a_range, a_set, some_ranges, an_entry, a_txn, plus}
 use Rattle.room.specs.Walks.{Got, Missing}
-use Rattle.room.specs.Chains.{the_txns, id_from}
-use Rattle.room.proofs.ChainLaws.{Labelled, Linked, ascending_linked}
+use Rattle.room.specs.Chains.{loose, the_keys, list_of}
 use Rattle.room.proofs.KeyLaws.{number_short}
+use Rattle.room.proofs.ListLaws.{as_set, as_ranges}
 
 -- ---- entries
 
@@ -35,13 +33,13 @@ module _ (limit : ℕ) (s : List ℕ) (at : ℕ) where
   entry_short h = record { reads = rw (number_short number_size s at h) }
 
   module _ (n : ℕ) (r : Stands (number number_size) s at n (at + keys_at)) where
-    pub entry_cut : Missing (set_form limit) s (at + keys_at) → Missing (entry_form limit) s at
-    unfolding entry_form via bind
+    pub entry_cut : Missing (list_of (the_keys limit)).form s (at + keys_at) → Missing (entry_form limit) s at
+    unfolding entry_form via bind set_form
     entry_cut m = record { reads = rw (r.reads, m.reads) }
 
-    pub entry_got : {t : Tally} → Got (a_set limit) s (at + keys_at) t → Got (an_entry limit) s at (record { end = t.end; marks = t.marks; bytes = t.bytes; high = n })
+    pub entry_got : {t : Tally} → Got (list_of (the_keys limit)) s (at + keys_at) t → Got (an_entry limit) s at (record { end = t.end; marks = t.marks; bytes = t.bytes; high = n })
     unfolding entry_form via bind
-    entry_got {t} g = record {
+    entry_got {t} k = let g = as_set limit k in record {
       val = record { seq = n; keys = g.val };
       fills = record { stands = record { reads = rw (r.reads, g.fills.stands.reads) }; from = omega (arith, g.fills.from); inside = g.fills.inside };
       marks = g.marks;
@@ -55,14 +53,6 @@ module _ (limit : ℕ) (s : List ℕ) (at : ℕ) where
 least_txn : (limit : ℕ) (t : Txn) → (txn_form limit).Ok t → writes_at ≤ length ((txn_form limit).write t)
 unfolding txn_form via bind
 least_txn limit t o = omega (arith, txn_length limit t (id_long (head_of t) o.0))
-
-txn_labelled : (limit : ℕ) → Labelled (a_txn limit) (λ t. t.id) id_from id_size
-txn_labelled limit s at e t w =
-    let o = open_txn limit w in
-    (omega (arith, o.writes.from, o.reads.from, o.ranges.from), sym o.head.id_at_lem ∙ drop_take at (at + id_size) s)
-
-pub txns_linked : (limit : ℕ) → Linked (the_txns limit)
-txns_linked limit = ascending_linked (a_txn limit) (λ t. t.id) id_from id_size (omega arith) (txn_labelled limit)
 
 module _ (limit : ℕ) (s : List ℕ) (at : ℕ) where
   pub txn_short : length s - at < writes_at → Missing (txn_form limit) s at
@@ -83,21 +73,30 @@ module _ (limit : ℕ) (s : List ℕ) (at : ℕ) where
     unfolding txn_head_form via bind raw
     head_is = record { reads = rw (id_stands, drop-drop id_size at s, start_is) }
 
-    pub no_writes : Missing (set_form limit) s (at + writes_at) → Missing (txn_form limit) s at
-    unfolding txn_form via bind
+    pub no_writes : Missing (list_of (the_keys limit)).form s (at + writes_at) → Missing (txn_form limit) s at
+    unfolding txn_form set_form via bind
     no_writes m = record { reads = rw (head_is.reads, m.reads) }
 
-    module _ {w : Tally} (a : Got (a_set limit) s (at + writes_at) w) where
-      pub no_reads : Missing (set_form limit) s w.end → Missing (txn_form limit) s at
-      unfolding txn_form via bind
+    module _ {w : Tally} (writes : Got (list_of (the_keys limit)) s (at + writes_at) w) where
+      a : Got (a_set limit) s (at + writes_at) w
+      a = as_set limit writes
+
+      pub no_reads : Missing (list_of (the_keys limit)).form s w.end → Missing (txn_form limit) s at
+      unfolding txn_form set_form via bind
       no_reads m = record { reads = rw (head_is.reads, a.fills.stands.reads, m.reads) }
 
-      module _ {u : Tally} (b : Got (a_set limit) s w.end u) where
-        pub no_ranges : Missing (ranges_form limit) s u.end → Missing (txn_form limit) s at
-        unfolding txn_form via bind
+      module _ {u : Tally} (reads : Got (list_of (the_keys limit)) s w.end u) where
+        b : Got (a_set limit) s w.end u
+        b = as_set limit reads
+
+        pub no_ranges : Missing (list_of (loose (a_range limit))).form s u.end → Missing (txn_form limit) s at
+        unfolding txn_form ranges_form via bind
         no_ranges m = record { reads = rw (head_is.reads, a.fills.stands.reads, b.fills.stands.reads, m.reads) }
 
-        module _ {x : Tally} (c : Got (some_ranges limit) s u.end x) (sets : Tally) (es : sets ≡ plus w u) where
+        module _ {x : Tally} (ranges : Got (list_of (loose (a_range limit))) s u.end x) (sets : Tally) (es : sets ≡ plus w u) where
+          c : Got (some_ranges limit) s u.end x
+          c = as_ranges limit ranges
+
           pub join_ranges : (sets.marks + sets.bytes ≤ sets.end) × (sets.end + x.marks + x.bytes ≤ x.end)
           join_ranges = rw es (omega (arith, a.fits, b.fits), omega (arith, c.fits))
 

@@ -1,4 +1,5 @@
 -- The bytes of the published size decide what a longer room holds.
+use Rattle.std.specs.Prelude.{Option, Some, None}
 use Prim.Native.Nat.{ℕ, ◌≤◌}
 use mathlib.Core.Path.{◌≡◌, sym, ap, ◌∙◌, subst}
 use mathlib.Core.Logic.{◌⊎◌}
@@ -13,7 +14,6 @@ use Rattle.codec.specs.Formats.{only}
 use Rattle.layout.specs.States.{state_form, room_size}
 use Rattle.layout.proofs.FrontLaws.{load_front, more_behind}
 use Rattle.room.specs.declared.View.{View}
-use Rattle.room.specs.declared.Opened.{Opened}
 use Rattle.room.specs.Views.{Seen, HoldsNone, Opening}
 
 module _ (s : List ℕ) (h : room_size base ≤ length s) where
@@ -51,7 +51,7 @@ module _ (s : List ℕ) (h : room_size base ≤ length s) where
   unfolding first
   none_more w = record { none = subst (λ (x : Room). (x ≡ short) ⊎ (x ≡ broken)) (sym (load_front base s)) w.none }
 
-  pub opening_more : (r : Opened) → Opening (take (room_size base) s) r → Opening s r
+  pub opening_more : (r : Option View) → Opening (take (room_size base) s) r → Opening s r
   unfolding first
-  opening_more (Opened.Of v) w = seen_more w
-  opening_more Opened.Bad w = none_more w
+  opening_more (Some v) w = seen_more w
+  opening_more None w = none_more w

@@ -1,12 +1,11 @@
 -- A key stands where its length does and so many bytes, and is its own label; for any key limit.
 use Prim.Native.Nat.{ℕ, ◌+◌, ◌-◌, ◌≤◌, ◌<◌}
-use mathlib.Core.Path.{◌≡◌, refl, sym, ◌∙◌}
+use mathlib.Core.Path.{◌≡◌, refl, sym}
 use mathlib.Core.List.{List}
 use native.Mathlib.Omega.{arith}
 use borrow.Author.Tests.{le-leb, lt-leb}
 use lib.ListN.{length, take, drop, length-drop}
 use lib.Seq.{drop-drop, length-take-le}
-use Rattle.moves.proofs.SpliceLaws.{drop_take}
 use Rattle.codec.specs.Codec.{cut}
 use Rattle.codec.specs.Formats.{number, raw, bind, only, via}
 use Rattle.codec.specs.Stands.{Stands}
@@ -14,11 +13,8 @@ use Rattle.codec.proofs.NumberLaws.{length_number}
 use Rattle.codec.proofs.RecordLaws.{too_short}
 use Rattle.layout.specs.Offsets.{length_size}
 use Rattle.layout.specs.Keys.{key_form}
-use Rattle.layout.proofs.OpenLaws.{open_key}
 use Rattle.room.specs.Counts.{a_key}
 use Rattle.room.specs.Walks.{Got, Missing}
-use Rattle.room.specs.Chains.{key_from, the_keys}
-use Rattle.room.proofs.ChainLaws.{Labelled, Linked, ascending_linked}
 
 pub number_short : (k : ℕ) (s : List ℕ) (at : ℕ) → length s - at < k → (number k).read (drop at s) ≡ cut
 number_short k s at h = too_short (number k) k (λ a o. omega (arith, length_number k a)) (drop at s) (rw (length-drop at s) h)
@@ -57,9 +53,3 @@ module _ (m : ℕ) (s : List ℕ) (at : ℕ) where
           high = refl;
           fits = omega arith;
         }
-
-pub key_labelled : (m : ℕ) → Labelled (a_key m) (λ k. k) key_from length_size
-key_labelled m s at e k w = let o = open_key m w in (omega (arith, o.ends), sym o.bytes ∙ drop_take (at + length_size) e s)
-
-pub keys_linked : (m : ℕ) → Linked (the_keys m)
-keys_linked m = ascending_linked (a_key m) (λ k. k) key_from length_size (omega arith) (key_labelled m)

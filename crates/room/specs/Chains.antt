@@ -1,9 +1,11 @@
 -- What the walk goes over one after another: keys of a set, ranges, entries, transactions. The key limit is any number m.
 use Rattle.std.specs.Prelude.{ℕ, ◌+◌, ◌≤◌, ◌≡◌, Bool, true, ◌||◌, List, eqb}
+use Rattle.machine.specs.Lists.{sum}
 use Rattle.machine.specs.State.{Bytes}
 use Rattle.layout.specs.Offsets.{id_size, length_size}
-use Rattle.layout.specs.Keys.{any_order, below}
+use Rattle.layout.specs.Keys.{any_order, below, list_form}
 use Rattle.layout.specs.Rows.{Fills}
+use Rattle.layout.specs.States.{highest}
 use Rattle.room.specs.Counts.{Counted, a_key, a_txn, run_of}
 use Rattle.room.specs.Walks.{between}
 
@@ -47,6 +49,10 @@ the_txns m = ascending (a_txn m) (λ t. t.id) id_from id_size
 -- n of them
 abbrev pub chain_of : (C : Chain) → ℕ → Counted (List C.Of)
 chain_of C n = run_of C.one C.before n
+
+-- so many of them behind their count
+abbrev pub list_of : (C : Chain) → Counted (List C.Of)
+list_of C = record { form = list_form C.one.form C.before; marks = sum C.one.marks; bytes = sum C.one.bytes; high = highest C.one.high }
 
 -- what the bytes tell of a chain: each takes its least, the first may be any, and whether one may follow another
 pub record Linked (C : Chain) : Type 0 where

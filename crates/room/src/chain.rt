@@ -1,9 +1,10 @@
 // The walk over records that stand one after another.
 ghost use Rattle.std.specs.Prelude.{◌≡◌, ◌+◌, ◌≤◌, length};
-ghost use Rattle.room.specs.Chains.{Chain, Linked, chain_of};
+ghost use Rattle.room.specs.Chains.{Chain, Linked, chain_of, list_of};
 ghost use Rattle.room.specs.Walks.{Walks, Apart};
 
 use crate::tally::Tally;
+use layout::COUNT;
 
 // Records of which so many stand one after another: how one ends, and which may follow which.
 pub trait Chained {
@@ -39,4 +40,16 @@ pub fn chain_end<C: Chained>(room: &[u8], at: usize, n: usize) -> Option<Tally>
         t = t.joined(u);
     }
     Some(t)
+}
+
+// Where a list of them ends: so many behind their count.
+pub fn list_end<C: Chained>(room: &[u8], at: usize) -> Option<Tally>
+    requires { at ≤ length room.now }
+    ensures { Walks (list_of C.chain) room.now at result }
+{
+    if room.len() - at < COUNT {
+        return None;
+    }
+    let n = codec::numbers::read_two(room, at);
+    chain_end::<C>(room, at + COUNT, n)
 }

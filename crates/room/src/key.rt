@@ -2,14 +2,14 @@
 ghost use Rattle.std.specs.Prelude.{◌≡◌, ◌+◌, ◌≤◌, length};
 ghost use Rattle.keys.specs.Limit.{key_limit};
 ghost use Rattle.room.specs.Chains.{the_keys};
-ghost use Rattle.room.specs.Counts.{a_key, a_set};
+ghost use Rattle.room.specs.Counts.{a_key};
 ghost use Rattle.room.specs.Walks.{Walks};
 ghost use Rattle.room.specs.Links.{keys_linked};
 
-use crate::chain::{Chained, chain_end};
+use crate::chain::Chained;
 use crate::tally::Tally;
 use keys::KEY_LIMIT;
-use layout::{COUNT, LENGTH};
+use layout::LENGTH;
 
 // Where the key at a place ends, which has at most `limit` bytes.
 pub fn key_end(room: &[u8], at: usize, limit: usize) -> Option<Tally>
@@ -45,25 +45,8 @@ impl Chained for Keys {
     }
 
     fn may_follow(room: &[u8], p: usize, e: usize, next: usize) -> bool {
-        if p == e {
-            return true;
-        }
-        let a = p + LENGTH;
-        let b = e + LENGTH;
-        keys::compare(&room[a..e], &room[b..next]) < 0
+        p == e || keys::compare(&room[p + LENGTH..e], &room[e + LENGTH..next]) < 0
     }
 
     ghost linked = { keys_linked key_limit };
-}
-
-// Where the set at a place ends: keys behind their count.
-pub fn set_end(room: &[u8], at: usize) -> Option<Tally>
-    requires { at ≤ length room.now }
-    ensures { Walks (a_set key_limit) room.now at result }
-{
-    if room.len() - at < COUNT {
-        return None;
-    }
-    let n = codec::numbers::read_two(room, at);
-    chain_end::<Keys>(room, at + COUNT, n)
 }

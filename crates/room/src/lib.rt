@@ -64,35 +64,19 @@ fn head(room: &[u8]) -> Option<Top>
 fn sound(top: Top, t: Tally) -> bool
     ensures { result ≡ soundly top t }
 {
-    if ACTIVE_LIMIT < top.active {
-        return false;
-    }
-    if ENTRY_LIMIT < top.entries {
-        return false;
-    }
-    if MARK_LIMIT < t.marks {
-        return false;
-    }
-    if BYTE_LIMIT < t.bytes {
-        return false;
-    }
-    if top.last < t.high {
-        return false;
-    }
-    if 0 < top.active {
-        return true;
-    }
-    top.entries == 0
+    top.active <= ACTIVE_LIMIT
+        && top.entries <= ENTRY_LIMIT
+        && t.marks <= MARK_LIMIT
+        && t.bytes <= BYTE_LIMIT
+        && t.high <= top.last
+        && (0 < top.active || top.entries == 0)
 }
 
 // The state's record that a room holds, if it holds one. No byte beyond the published size is looked at.
 pub fn open(room: &[u8]) -> Option<View>
     ensures { Opening room.now result }
 {
-    if room.len() < SIZE {
-        return None;
-    }
-    open_record(&room[0..SIZE])
+    open_record(room.get(..SIZE)?)
 }
 
 // The same, of a room that is as long as the published size at least.

@@ -1,20 +1,18 @@
 // The walk over bounds and ranges.
 ghost use Rattle.std.specs.Prelude.{◌≡◌, ◌≤◌, length};
 ghost use Rattle.keys.specs.Limit.{key_limit};
-ghost use Rattle.room.specs.Counts.{a_range, some_ranges};
+ghost use Rattle.room.specs.Counts.{a_range};
 ghost use Rattle.room.specs.Chains.{loose};
-ghost use Rattle.room.specs.Walks.{Walks};
 ghost use Rattle.room.specs.Links.{loose_linked};
 ghost use Rattle.room.specs.BoundWalks.{BoundIs, longest_key};
 
-use crate::chain::{Chained, chain_end};
+use crate::chain::Chained;
 use crate::key::key_end;
 use crate::tally::Tally;
 use bounds::comparable_range::ComparableRange;
-use fields::{EXCLUDED, INCLUDED, UNBOUNDED};
 use keys::KEY_LIMIT;
 use kinds::kind::Kind;
-use layout::{BOUND, COUNT, TAG};
+use layout::{BOUND, TAG};
 
 // A bound that stands in a room: its kind, and where it ends.
 #[derive(Clone, Copy)]
@@ -31,27 +29,13 @@ fn bound_end(room: &[u8], at: usize) -> Option<StoredBound>
     if room.len() - at < TAG {
         return None;
     }
-    let kind = kind_of(room[at])?;
-    let key = key_end(room, at + TAG, key_room(kind))?;
+    let kind = Kind::try_from(room[at]).ok()?;
+    let key = key_end(room, at + TAG, limit_of(kind))?;
     Some(StoredBound { kind, end: key.end })
 }
 
-// The kind that a tag names.
-fn kind_of(tag: u8) -> Option<Kind> {
-    if tag == UNBOUNDED {
-        return Some(Kind::Unbounded);
-    }
-    if tag == INCLUDED {
-        return Some(Kind::Included);
-    }
-    if tag == EXCLUDED {
-        return Some(Kind::Excluded);
-    }
-    None
-}
-
 // How long a key may be that stands with a kind.
-fn key_room(kind: Kind) -> usize
+fn limit_of(kind: Kind) -> usize
     ensures { result ≡ longest_key key_limit kind }
 {
     match kind {
@@ -90,16 +74,4 @@ impl Chained for Ranges {
     }
 
     ghost linked = { loose_linked (a_range key_limit) };
-}
-
-// Where the list of ranges at a place ends: ranges behind their count.
-pub fn ranges_end(room: &[u8], at: usize) -> Option<Tally>
-    requires { at ≤ length room.now }
-    ensures { Walks (some_ranges key_limit) room.now at result }
-{
-    if room.len() - at < COUNT {
-        return None;
-    }
-    let n = codec::numbers::read_two(room, at);
-    chain_end::<Ranges>(room, at + COUNT, n)
 }

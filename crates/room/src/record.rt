@@ -5,9 +5,9 @@ ghost use Rattle.room.specs.Counts.{an_entry};
 ghost use Rattle.room.specs.Chains.{loose, the_txns};
 ghost use Rattle.room.specs.Links.{loose_linked, txns_linked};
 
-use crate::chain::Chained;
-use crate::key::set_end;
-use crate::range::ranges_end;
+use crate::chain::{Chained, list_end};
+use crate::key::Keys;
+use crate::range::Ranges;
 use crate::tally::Tally;
 use layout::{ID, KEYS, START, WRITES};
 
@@ -22,7 +22,7 @@ impl Chained for Entries {
             return None;
         }
         let high = codec::numbers::read_eight(room, at);
-        let keys = set_end(room, at + KEYS)?;
+        let keys = list_end::<Keys>(room, at + KEYS)?;
         Some(Tally { high, ..keys })
     }
 
@@ -44,18 +44,15 @@ impl Chained for Txns {
             return None;
         }
         let high = codec::numbers::read_eight(room, at + START);
-        let writes = set_end(room, at + WRITES)?;
-        let reads = set_end(room, writes.end)?;
-        let ranges = ranges_end(room, reads.end)?;
+        let writes = list_end::<Keys>(room, at + WRITES)?;
+        let reads = list_end::<Keys>(room, writes.end)?;
+        let ranges = list_end::<Ranges>(room, reads.end)?;
         let all = writes.joined(reads).joined(ranges);
         Some(Tally { high, ..all })
     }
 
     fn may_follow(room: &[u8], p: usize, e: usize, next: usize) -> bool {
-        if p == e {
-            return true;
-        }
-        keys::compare(&room[p..p + ID], &room[e..e + ID]) < 0
+        p == e || keys::compare(&room[p..p + ID], &room[e..e + ID]) < 0
     }
 
     ghost linked = { txns_linked key_limit };

@@ -10,18 +10,21 @@ use lib.ListN.{length, take, drop, get_or, length-drop, drop_of_length-le}
 use lib.Seq.{drop-cons, drop-drop, length-take-le}
 use Rattle.moves.proofs.SpliceLaws.{drop_take}
 use Rattle.fields.specs.Fields.{field_head, size_of, field, cut, first}
-use Rattle.fields.proofs.Reading.{byte}
+use Rattle.fields.proofs.Reading.{byte, from_on, byte_from}
 use Rattle.script.specs.Stream.{Next, known, record_of, next, whole, more, stop, payload_limit}
-use Rattle.script.specs.Records.{WholeAt, MoreAt, StopAt}
+use Rattle.script.specs.declared.records.Tag.{Tag}
+use Rattle.script.specs.Records.{tag_number, WholeAt, MoreAt, StopAt}
 
-is_known : (t : ℕ) → 1 ≤ t → t ≤ 9 → known t ≡ true
-is_known t h k = rw (le-leb 1 t h, le-leb t 9 k)
-
-is_low : (t : ℕ) → t < 1 → known t ≡ false
-is_low t h = rw (lt-leb 1 t h)
-
-is_high : (t : ℕ) → 9 < t → known t ≡ false
-is_high t h = rw (le-leb 1 t (omega arith), lt-leb t 9 h)
+pub known_number : (t : Tag) → known (tag_number t) ≡ true
+known_number Tag.Begin = refl
+known_number Tag.Writes = refl
+known_number Tag.Reads = refl
+known_number Tag.Range = refl
+known_number Tag.Check = refl
+known_number Tag.Commit = refl
+known_number Tag.Batch = refl
+known_number Tag.Drop = refl
+known_number Tag.Minimum = refl
 
 -- a record whose head is whole and has a known tag, n being the length that it says
 abbrev pub sized : ℕ → ℕ → List ℕ → Next
@@ -65,20 +68,17 @@ module _ (bs : List ℕ) (at : ℕ) where
     tag_first : drop at bs ≡ get_or bs at 0 ∷ drop (suc at) bs
     tag_first = drop-cons bs at 0 left
 
-    pub tag_low : get_or bs at 0 < 1 → StopAt bs at
-    tag_low h = record { reads = ap next tag_first ∙ next_unknown (get_or bs at 0) (drop (suc at) bs) (is_low (get_or bs at 0) h) }
+    pub tag_unknown : known (get_or bs at 0) ≡ false → StopAt bs at
+    tag_unknown e = record { reads = ap next tag_first ∙ next_unknown (get_or bs at 0) (drop (suc at) bs) e }
 
-    pub tag_high : 9 < get_or bs at 0 → StopAt bs at
-    tag_high h = record { reads = ap next tag_first ∙ next_unknown (get_or bs at 0) (drop (suc at) bs) (is_high (get_or bs at 0) h) }
-
-    pub head_cut : 1 ≤ get_or bs at 0 → get_or bs at 0 ≤ 9 → length bs - at < field_head → MoreAt bs at
-    head_cut p q h =
+    pub head_cut : (t : Tag) → get_or bs at 0 ≡ tag_number t → length bs - at < field_head → MoreAt bs at
+    head_cut t e h =
         record {
           few = omega arith;
-          reads = ap next tag_first ∙ next_few (get_or bs at 0) (drop (suc at) bs) (is_known (get_or bs at 0) p q) (rw length-drop (omega arith));
+          reads = ap next tag_first ∙ next_few (get_or bs at 0) (drop (suc at) bs) (ap known e ∙ known_number t) (rw length-drop (omega arith));
         }
 
-  module _ (h l : ℕ) (room : at + field_head ≤ length bs) (high : h ≡ get_or bs (at + 1) 0) (low : l ≡ get_or bs (at + 2) 0) (p : 1 ≤ get_or bs at 0) (q : get_or bs at 0 ≤ 9) where
+  module _ (h l : ℕ) (t : Tag) (room : at + field_head ≤ length bs) (e : get_or bs at 0 ≡ tag_number t) (high : h ≡ get_or (from_on bs at) 1 0) (low : l ≡ get_or (from_on bs at) 2 0) where
     head_read : next (drop at bs) ≡ sized (get_or bs at 0) (size_of h l) (drop (at + field_head) bs)
     head_read =
         rw (
@@ -86,9 +86,9 @@ module _ (bs : List ℕ) (at : ℕ) where
           byte bs (at + 1) (at + 2) (omega arith) (omega arith),
           byte bs (at + 2) (at + field_head) (omega arith) (omega arith),
           next_headed (get_or bs at 0) (get_or bs (at + 1) 0) (get_or bs (at + 2) 0) (drop (at + field_head) bs),
-          is_known (get_or bs at 0) p q,
-          high,
-          low,
+          ap known e ∙ known_number t,
+          high ∙ byte_from bs at 1,
+          low ∙ byte_from bs at 2,
         )
 
     pub too_long_lem : payload_limit < size_of h l → StopAt bs at

@@ -1,4 +1,5 @@
 // Records, as their bytes arrive.
+ghost use Rattle.std.specs.Prelude.{⊤};
 ghost use Rattle.script.specs.Records.{TagIs, NextRecordIs};
 
 use fields::{FIELD_HEAD, Span};
@@ -71,7 +72,7 @@ pub fn next_record(bytes: &[u8], at: usize) -> Result<Option<Record>, Stop>
         return Ok(None);
     }
     let tag = bytes[at];
-    let _known = Tag::try_from(tag)?;
+    Tag::try_from(tag)?;
     let [_, high, low, rest @ ..] = &bytes[at..] else {
         return Ok(None);
     };
@@ -84,5 +85,8 @@ pub fn next_record(bytes: &[u8], at: usize) -> Result<Option<Record>, Stop>
     }
     let from = at + FIELD_HEAD;
     let to = from + n;
-    Ok(Some(Record { tag, payload: Span { from, to } }))
+    Ok(Some(Record {
+        tag,
+        payload: Span { from, to },
+    }))
 }

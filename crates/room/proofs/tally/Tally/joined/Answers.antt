@@ -1,5 +1,5 @@
--- What two tallies count together stays within the place that they end at, so no sum overflows.
+-- The sums are those of `plus`, and the higher number is the maximum.
 use Rattle.room.proofs.tally.Tally.joined.Goals as goal
 
 pub returns : goal.returns
-returns c = rw c.larger-high.ensures
+returns c = rw c.max.ensures
