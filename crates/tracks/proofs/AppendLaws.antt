@@ -3,6 +3,7 @@ use Prim.Native.Nat.{ℕ, ◌+◌, ◌≤◌, ◌<◌, ◌^◌}
 use mathlib.Core.Path.{◌≡◌, ap, ◌∙◌}
 use lib.ListN.{length}
 use lib.Seq.{paste}
+use Rattle.fields.specs.declared.Span.{Span}
 use Rattle.machine.specs.State.{Bytes, Txn}
 use Rattle.layout.specs.Offsets.{count_size, writes_at, any_length}
 use Rattle.codec.specs.Formats.{number}
@@ -17,12 +18,12 @@ use Rattle.layout.proofs.OpenLaws.{open_ranges}
 use Rattle.places.proofs.EndLaws.{here_of, ranges_fills}
 use Rattle.tracks.specs.Ranges.{Appendable, AppendedTo, Appended}
 
-module _ {s bounds : Bytes} {used txn end : ℕ} (g : Appendable s used txn end bounds) where
-  pub txn_stands : Here (txn_form any_length) s txn
+module _ {s bounds : Bytes} {used : ℕ} {txn : Span} (g : Appendable s used txn bounds) where
+  pub txn_stands : Here (txn_form any_length) s txn.from
   txn_stands = here_of (txn_form any_length) g.fills
 
-  module _ {m at : ℕ} (x : Ends (set_form any_length) s (txn + writes_at) m) (y : Ends (set_form any_length) s m at) where
-    its_ranges : Fills (ranges_form any_length) s at g.one.ranges end
+  module _ {m at : ℕ} (x : Ends (set_form any_length) s (txn.from + writes_at) m) (y : Ends (set_form any_length) s m at) where
+    its_ranges : Fills (ranges_form any_length) s at g.one.ranges txn.to
     its_ranges = ranges_fills g.fills x y
 
     pub count_inside : at + count_size ≤ length s
@@ -32,13 +33,13 @@ module _ {s bounds : Bytes} {used txn end : ℕ} (g : Appendable s used txn end 
       pub few_ranges : n < 256 ^ count_size
       few_ranges = number_below count_size q
 
-      pub appended : {longer s' : Bytes} → Spliced s used end 0 bounds longer → s' ≡ paste longer at ((number count_size).write (n + 1)) count_size → Appended s used txn end bounds s'
+      pub appended : {longer s' : Bytes} → Spliced s used txn.to 0 bounds longer → s' ≡ paste longer at ((number count_size).write (n + 1)) count_size → Appended s used txn bounds s'
       appended {longer} {s'} w e = record { is = λ t p. of t (fills_one (txn_form any_length) g.fills p).0 }
         where
           count_is : n ≡ length g.one.ranges
           count_is = number_read_is count_size (open_ranges any_length its_ranges).count_at q
 
-          of : (t : Txn) → g.one ≡ t → AppendedTo s used end bounds s' t
+          of : (t : Txn) → g.one ≡ t → AppendedTo s used txn.to bounds s' t
           of t i =
               rw (← i)
               (record {

@@ -8,6 +8,7 @@ use borrow.Author.Tests.{le-leb, leb-true}
 use lib.Dec.{leb}
 use lib.ListN.{length, take, drop, get_or}
 use lib.Seq.{slice, length-slice}
+use Rattle.std.specs.Prelude.{Result, Ok, Err, IsErrAnd}
 use Rattle.keys.specs.Limit.{key_limit}
 use Rattle.kinds.specs.Bounds.{bound}
 use Rattle.kinds.specs.declared.kind.Kind.{Kind}
@@ -24,7 +25,8 @@ use Rattle.moves.proofs.SpliceLaws.{drop_take}
 use Rattle.layout.specs.Offsets.{mark_size, any_length}
 use Rattle.layout.proofs.SizeLaws.{range_length}
 use Rattle.answers.proofs.StateLaws.{not_true}
-use Rattle.tracks.specs.declared.range.Judged.{Judged}
+use Rattle.answers.specs.declared.Outcome.{Outcome}
+use Rattle.answers.specs.declared.Refusal.{Refusal}
 use Rattle.tracks.specs.Ranges.{judged}
 use Rattle.tracks.proofs.BoundsLaws.{bounds_record}
 
@@ -44,16 +46,20 @@ one_long n r h = not_true (short_range n r) (λ e. no h ((and-eq-true_iff (leb (
     no (inl a) e = omega (arith, a, leb-true (length (key_of r.start)) n e.0)
     no (inr a) e = omega (arith, a, leb-true (length (key_of r.end)) n e.1)
 
-pub judged_malformed : {bs : Bytes} → NoBoundsIn bs → Judged.Malformed ≡ judged (bounds_of bs)
-judged_malformed b = sym (ap judged b.breaks)
+abbrev Judged : Type 0
+Judged = Result ℕ Refusal
+
+pub judged_malformed : {bs : Bytes} (r : Judged) → IsErrAnd r (λ (x : Refusal). x ≡ Refusal.Malformed) → NoBoundsIn bs → r ≡ judged (bounds_of bs)
+judged_malformed (Ok n) e b = absurd e
+judged_malformed (Err x) e b = rw e (sym (ap judged b.breaks))
 
 module _ {bs : Bytes} {p : BoundPlaces} (b : BoundsAt bs p) where
   -- where the keys stand
   pub record Within : Type 0 where
-    pub start : p.start_from ≤ p.start_to
-    pub middle : p.start_to ≤ p.end_from
-    pub end : p.end_from ≤ p.end_to
-    pub whole : p.end_to ≡ length bs
+    pub start : p.start.key.from ≤ p.start.key.to
+    pub middle : p.start.key.to ≤ p.end.key.from
+    pub end : p.end.key.from ≤ p.end.key.to
+    pub whole : p.end.key.to ≡ length bs
 
   pub keys_within : Within
   keys_within =
@@ -65,39 +71,39 @@ module _ {bs : Bytes} {p : BoundPlaces} (b : BoundsAt bs p) where
       }
 
   abbrev said : Range
-  said = range (bound p.start (slice p.start_from p.start_to bs)) (bound p.end (slice p.end_from p.end_to bs))
+  said = range (bound p.start.kind (slice p.start.key.from p.start.key.to bs)) (bound p.end.kind (slice p.end.key.from p.end.key.to bs))
 
   module _ (small : (i : ℕ) → get_or bs i 0 < 256) where
-    sizes : (length (key_of said.start) ≡ p.start_to - p.start_from) × (length (key_of said.end) ≡ p.end_to - p.end_from)
+    sizes : (length (key_of said.start) ≡ p.start.key.to - p.start.key.from) × (length (key_of said.end) ≡ p.end.key.to - p.end.key.from)
     sizes =
         let l : length bs ≡ mark_size + range_bytes said = ap length (bounds_record any_length bs said small b.reads) ∙ range_length any_length said in
-        let x = key_most p.start (slice p.start_from p.start_to bs) in
-        let y = key_most p.end (slice p.end_from p.end_to bs) in
-        let u = length-slice p.start_from p.start_to bs (omega (arith, keys_within)) in
-        let v = length-slice p.end_from p.end_to bs (omega (arith, keys_within)) in
+        let x = key_most p.start.kind (slice p.start.key.from p.start.key.to bs) in
+        let y = key_most p.end.kind (slice p.end.key.from p.end.key.to bs) in
+        let u = length-slice p.start.key.from p.start.key.to bs (omega (arith, keys_within)) in
+        let v = length-slice p.end.key.from p.end.key.to bs (omega (arith, keys_within)) in
         (omega (arith, l, x, y, u, v, b.start_begins, b.end_begins, keys_within), omega (arith, l, x, y, u, v, b.start_begins, b.end_begins, keys_within))
 
-    pub judged_long : (key_limit < p.start_to - p.start_from) ⊎ (key_limit < p.end_to - p.end_from) → Judged.LongKey ≡ judged (bounds_of bs)
-    judged_long h = sym (ap judged b.reads ∙ ap (λ (x : Bool). cond x (cond (not_empty said) (Judged.Good (range_bytes said)) Judged.EmptyRange) Judged.LongKey) (one_long key_limit said (long h)))
+    pub judged_long : (key_limit < p.start.key.to - p.start.key.from) ⊎ (key_limit < p.end.key.to - p.end.key.from) → Err Refusal.LongKey ≡ judged (bounds_of bs)
+    judged_long h = sym (ap judged b.reads ∙ ap (λ (x : Bool). cond x (cond (not_empty said) (Ok (range_bytes said)) (Err Refusal.EmptyRange)) (Err Refusal.LongKey)) (one_long key_limit said (long h)))
       where
-        long : (key_limit < p.start_to - p.start_from) ⊎ (key_limit < p.end_to - p.end_from) → (key_limit < length (key_of said.start)) ⊎ (key_limit < length (key_of said.end))
+        long : (key_limit < p.start.key.to - p.start.key.from) ⊎ (key_limit < p.end.key.to - p.end.key.from) → (key_limit < length (key_of said.start)) ⊎ (key_limit < length (key_of said.end))
         long (inl x) = inl (omega (arith, x, sizes))
         long (inr x) = inr (omega (arith, x, sizes))
 
-    module _ (q : ComparableRange) (k : (q.start ≡ p.start) × (q.end ≡ p.end)) (hs : p.start_to - p.start_from ≤ key_limit) (he : p.end_to - p.end_from ≤ key_limit) where
+    module _ (q : ComparableRange) (k : (q.start ≡ p.start.kind) × (q.end ≡ p.end.kind)) (hs : p.start.key.to - p.start.key.from ≤ key_limit) (he : p.end.key.to - p.end.key.from ≤ key_limit) where
       abbrev lent : Range
-      lent = range_of q (take (p.start_to - p.start_from) (drop p.start_from bs)) (take (p.end_to - p.end_from) (drop p.end_from bs))
+      lent = range_of q (take (p.start.key.to - p.start.key.from) (drop p.start.key.from bs)) (take (p.end.key.to - p.end.key.from) (drop p.end.key.from bs))
 
       lent_said : lent ≡ said
-      lent_said = rw (k.0, k.1, drop_take p.start_from p.start_to bs, drop_take p.end_from p.end_to bs)
+      lent_said = rw (k.0, k.1, drop_take p.start.key.from p.start.key.to bs, drop_take p.end.key.from p.end.key.to bs)
 
-      short : judged (bounds_of bs) ≡ cond (not_empty said) (Judged.Good (range_bytes said)) Judged.EmptyRange
-      short = ap judged b.reads ∙ ap (λ (x : Bool). cond x (cond (not_empty said) (Judged.Good (range_bytes said)) Judged.EmptyRange) Judged.LongKey) (both_short key_limit said (omega (arith, sizes)) (omega (arith, sizes)))
+      short : judged (bounds_of bs) ≡ cond (not_empty said) (Ok (range_bytes said)) (Err Refusal.EmptyRange)
+      short = ap judged b.reads ∙ ap (λ (x : Bool). cond x (cond (not_empty said) (Ok (range_bytes said)) (Err Refusal.EmptyRange)) (Err Refusal.LongKey)) (both_short key_limit said (omega (arith, sizes)) (omega (arith, sizes)))
 
-      pub judged_good : not_empty lent ≡ true → Judged.Good (p.start_to - p.start_from + (p.end_to - p.end_from)) ≡ judged (bounds_of bs)
+      pub judged_good : not_empty lent ≡ true → Ok (p.start.key.to - p.start.key.from + (p.end.key.to - p.end.key.from)) ≡ judged (bounds_of bs)
       judged_good e =
-          let n : range_bytes said ≡ p.start_to - p.start_from + (p.end_to - p.end_from) = omega (arith, sizes) in
-          sym (short ∙ ap (λ (x : Bool). cond x (Judged.Good (range_bytes said)) Judged.EmptyRange) (ap not_empty (sym lent_said) ∙ e) ∙ ap Judged.Good n)
+          let n : range_bytes said ≡ p.start.key.to - p.start.key.from + (p.end.key.to - p.end.key.from) = omega (arith, sizes) in
+          sym (short ∙ ap (λ (x : Bool). cond x (Ok (range_bytes said)) (Err Refusal.EmptyRange)) (ap not_empty (sym lent_said) ∙ e) ∙ ap Ok n)
 
-      pub judged_empty : not_empty lent ≡ false → Judged.EmptyRange ≡ judged (bounds_of bs)
-      judged_empty e = sym (short ∙ ap (λ (x : Bool). cond x (Judged.Good (range_bytes said)) Judged.EmptyRange) (ap not_empty (sym lent_said) ∙ e))
+      pub judged_empty : not_empty lent ≡ false → Err Refusal.EmptyRange ≡ judged (bounds_of bs)
+      judged_empty e = sym (short ∙ ap (λ (x : Bool). cond x (Ok (range_bytes said)) (Err Refusal.EmptyRange)) (ap not_empty (sym lent_said) ∙ e))

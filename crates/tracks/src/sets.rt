@@ -77,7 +77,12 @@ fn find_place(draft: &[u8], count: usize, key: &[u8]) -> Option<usize>
 }
 
 // Puts the keys of a list into a set in a draft, as far as there is space for new ones.
-pub fn insert_all(draft: &mut [u8], mut set: Set, list: &[u8], mut space: Space) -> Result<Set, Full>
+pub fn insert_all(
+    draft: &mut [u8],
+    mut set: Set,
+    list: &[u8],
+    mut space: Space,
+) -> Result<Set, Full>
     requires { Ready draft.old set list.now space }
     ensures { InsertedIs draft.old set list.now space draft.new result }
 {
