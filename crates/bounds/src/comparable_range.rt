@@ -79,10 +79,8 @@ impl ComparableRange {
     ) -> &'a [u8]
         ensures { result.now ≡ sided (max_start (bound self.start start_key.now) (bound other.start other_start_key.now)) start_key.now other_start_key.now }
     {
-        max_start(self.start, start_key, other.start, other_start_key).pick(
-            start_key,
-            other_start_key,
-        )
+        let side = max_start(self.start, start_key, other.start, other_start_key);
+        side.pick(start_key, other_start_key)
     }
 
     // The lesser end's key, likewise.
@@ -94,7 +92,8 @@ impl ComparableRange {
     ) -> &'a [u8]
         ensures { result.now ≡ sided (min_end (bound self.end end_key.now) (bound other.end other_end_key.now)) end_key.now other_end_key.now }
     {
-        min_end(self.end, end_key, other.end, other_end_key).pick(end_key, other_end_key)
+        let side = min_end(self.end, end_key, other.end, other_end_key);
+        side.pick(end_key, other_end_key)
     }
 
     pub fn union<'a>(

@@ -1,6 +1,5 @@
 pub mod Heads
 pub mod Signs
-pub mod Steps
-pub mod Prefixes
+pub mod Library
 pub mod OrderLaws
 pub mod OneAnswer

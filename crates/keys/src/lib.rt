@@ -11,39 +11,17 @@ pub const KEY_LIMIT: usize = 512;
 pub fn compare(a: &[u8], b: &[u8]) -> i8
     ensures { result ≡ sign (order a.now b.now) }
 {
-    let mut i = 0;
-    while i < a.len() {
-        if b.len() <= i {
-            return 1;
-        }
-        let x = a[i];
-        let y = b[i];
-        if x < y {
-            return -1;
-        }
-        if y < x {
-            return 1;
-        }
-        i += 1;
-    }
-    if i < b.len() {
-        return -1;
-    }
-    0
+    a.cmp(b) as i8
 }
 
 pub fn equal(a: &[u8], b: &[u8]) -> bool
     ensures { result ≡ is_same (order a.now b.now) }
 {
-    compare(a, b) == 0
+    a == b
 }
 
 pub fn starts_with(key: &[u8], prefix: &[u8]) -> bool
     ensures { result ≡ starts_with prefix.now key.now }
 {
-    let n = prefix.len();
-    if key.len() < n {
-        return false;
-    }
-    equal(prefix, &key[..n])
+    key.starts_with(prefix)
 }

@@ -1,10 +1,10 @@
 -- The cases that document 01 marks P, in its order, as one list of statements.
-use Rattle.std.specs.Prelude.{ℕ, ◌≡◌, true, false, List, [], ◌∷◌, ◌↔◌, replicate}
+use Rattle.std.specs.Prelude.{ℕ, ◌≡◌, true, false, List, [], ◌∷◌, ◌↔◌, replicate, Some, None}
 use Rattle.std.proofs.Math.Option.{none, some}
 use mathlib.Core.Ordering.{lt}
 use Rattle.keys.specs.Order.{order}
 use Rattle.bounds.specs.declared.sides.Side.TheVariants.{First, Second}
-use Rattle.bounds.specs.declared.sides.Combined.TheVariants.{Of, Nothing}
+use Rattle.bounds.specs.Sides.{sides}
 use Rattle.kinds.specs.Bounds.{unbounded, included, excluded}
 use Rattle.bounds.specs.Ranges.{Range, range, holds, not_empty, touches, union_of}
 use Rattle.ranges.specs.Made.{status}
@@ -78,9 +78,9 @@ cases =
     Hollow below_empty
     ∷  -- "[61]..included [62] touches excluded [62]..[63]: union."
     ((touches (range (included k61) (included k62)) (range (excluded k62) (excluded k63)) ≡ true)
-    × (union_of (range (included k61) (included k62)) (range (excluded k62) (excluded k63)) ≡ Of First Second))
+    × (union_of (range (included k61) (included k62)) (range (excluded k62) (excluded k63)) ≡ Some (sides First Second)))
     ∷  -- "[61]..included [62] and included [62 00]..[63]: no union."
-    (union_of (range (included k61) (included k62)) (range (included k6200) (excluded k63)) ≡ Nothing)
+    (union_of (range (included k61) (included k62)) (range (included k6200) (excluded k63)) ≡ None)
     ∷  -- "prefix [61], subrange unbounded to excluded empty: status 5."
     (status (new_of (subrange_of k61 below_empty)) ≡ 5)
     ∷  -- "empty prefix, same subrange: accepted."

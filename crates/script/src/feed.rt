@@ -34,7 +34,11 @@ pub fn feed(room: &mut [u8], bytes: &[u8], out: &mut [u8]) -> Fed
         match next_record(bytes, at) {
             Ok(Some(record)) => {
                 let payload = record.payload;
-                let answer = Answer::from(serve_record(room, record.tag, &bytes[payload.from..payload.to]));
+                let answer = Answer::from(serve_record(
+                    room,
+                    record.tag,
+                    &bytes[payload.from..payload.to],
+                ));
                 put = put_line(out, put, answer.status, answer.value);
                 at = payload.to;
             }

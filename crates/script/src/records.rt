@@ -85,5 +85,8 @@ pub fn next_record(bytes: &[u8], at: usize) -> Result<Option<Record>, Stop>
     }
     let from = at + FIELD_HEAD;
     let to = from + n;
-    Ok(Some(Record { tag, payload: Span { from, to } }))
+    Ok(Some(Record {
+        tag,
+        payload: Span { from, to },
+    }))
 }

@@ -1,7 +1,7 @@
--- Two keys are equal where their comparison says 0.
-use Rattle.keys.specs.Order.{order}
-use Rattle.keys.proofs.Signs.{same_sign}
+-- Two keys are equal where their order says so.
+use mathlib.Core.Path.{◌∙◌}
+use Rattle.keys.proofs.Library.{same_is}
 use Rattle.keys.proofs.equal.Goals as goal
 
 pub returns : goal.returns
-returns c = rw c.compare.ensures (same_sign (order c.args.a.now c.args.b.now))
+returns c = c.eq.ensures ∙ same_is c.args.a.now c.args.b.now

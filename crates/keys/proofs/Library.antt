@@ -1,0 +1,62 @@
+-- The library's comparison, equality and prefix of byte slices are those of the definitions.
+use Prim.Native.Nat.{ℕ, ◌≤◌}
+use mathlib.Core.Path.{◌≡◌, refl, sym, ap, ◌∙◌}
+use mathlib.Core.Bool.{◌&&◌}
+use mathlib.Core.List.{List, [], ◌∷◌}
+use mathlib.Core.Ordering as three_way
+use native.Mathlib.Omega.{arith}
+use borrow.Author.Tests.{lt-ltb, le-ltb, eq-eqb, ne_eqb}
+use lib.Dec.{eqb}
+use lib.IntN.{◌+ℤ◌, negsuc}
+use lib.ListN.{length, take}
+use lib.Pointwise.{pointwise}
+use mir.Syntax.{w8}
+use mir.Val.{to_z, of_z}
+use denote.Enum.Declared.{tag_of}
+use Rattle.std.specs.declared.cmp.Ordering.{Ordering}
+use Rattle.std.specs.declared.cmp.Ordering.TheVariants.{Less, Equal, Greater}
+use Rattle.std.specs.contracts.cmp.Ordering.{the_type}
+use Rattle.std.specs.Ordering.{nat_cmp, ordering_then}
+use Rattle.std.specs.Cmp.Lexicographic.{slice_cmp}
+use Rattle.keys.specs.Order.{order, sign, is_same, starts_with}
+use Rattle.keys.proofs.Heads.{head_less, head_more, head_same, Three, below, equal, above, three}
+
+abbrev pub as_order : Ordering → three_way.Ordering
+as_order Less = three_way.lt
+as_order Equal = three_way.eq
+as_order Greater = three_way.gt
+
+pub number_is : (o : Ordering) → to_z w8 (of_z w8 (to_z w8 (tag_of the_type o) +ℤ negsuc 0)) ≡ sign (as_order o)
+number_is Less = refl
+number_is Equal = refl
+number_is Greater = refl
+
+pub order_is : (a b : List ℕ) → as_order (slice_cmp nat_cmp a b) ≡ order a b
+unfolding order
+order_is [] [] = refl
+order_is [] (y ∷ b) = refl
+order_is (x ∷ a) [] = refl
+order_is (x ∷ a) (y ∷ b) = go (order_is a b) (three x y)
+  where
+    go : as_order (slice_cmp nat_cmp a b) ≡ order a b → Three x y → as_order (ordering_then (nat_cmp x y) (slice_cmp nat_cmp a b)) ≡ order (x ∷ a) (y ∷ b)
+    go ih (below l) = rw (lt-ltb x y l)
+    go ih (equal e) = let h : x ≤ x = omega arith in rw (← e, le-ltb x x h, eq-eqb x x refl) ih
+    go ih (above l) = let h : y ≤ x = omega arith in rw (le-ltb x y h, ne_eqb x y (λ e. omega arith), lt-ltb y x l)
+
+pub same_is : (a b : List ℕ) → pointwise eqb a b ≡ is_same (order a b)
+unfolding order
+same_is [] [] = refl
+same_is [] (y ∷ b) = refl
+same_is (x ∷ a) [] = refl
+same_is (x ∷ a) (y ∷ b) = go (same_is a b) (three x y)
+  where
+    go : pointwise eqb a b ≡ is_same (order a b) → Three x y → (eqb x y && pointwise eqb a b) ≡ is_same (order (x ∷ a) (y ∷ b))
+    go ih (below l) = rw (ne_eqb x y (λ e. omega arith)) (sym (ap is_same (head_less x y a b l)))
+    go ih (equal e) = rw (← e, eq-eqb x x refl) (ih ∙ sym (ap is_same (head_same x a b)))
+    go ih (above l) = rw (ne_eqb x y (λ e. omega arith)) (sym (ap is_same (head_more x y a b l)))
+
+pub front_is : (p k : List ℕ) → pointwise eqb p (take (length p) k) ≡ starts_with p k
+unfolding starts_with
+front_is [] k = refl
+front_is (x ∷ p) [] = refl
+front_is (x ∷ p) (y ∷ k) = ap (λ t. eqb x y && t) (front_is p k)
