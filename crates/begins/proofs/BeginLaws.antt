@@ -28,7 +28,8 @@ use Rattle.edits.specs.Laid.{write_entries, write_active}
 use Rattle.edits.specs.Edits.{Freshened}
 use Rattle.edits.proofs.LaidLaws.{relaid, laid_used, laid_active, laid_end, laid_number}
 use Rattle.edits.proofs.ChangeLaws.{fresh_changed, active_split, laid_put}
-use Rattle.places.specs.declared.finds.Place.{Place}
+use Rattle.std.specs.Prelude.{Ok, Err}
+use Rattle.fields.specs.declared.Span.{Span}
 use Rattle.places.specs.Finds.{Found, BeforeIn}
 use Rattle.places.proofs.FindLaws.{before_puts}
 use Rattle.room.specs.declared.View.{View}
@@ -48,10 +49,10 @@ module _ (s : List ℕ) (v : View) (id : Bytes) (w : Seen s v) where
   pub begins_malformed : (length id ≡ id_size → ⊥) → Served s (on (begin id)) 2 0 s
   begins_malformed h = refuse s w.state (begin id) (seen_load w) malformed (begin_malformed base w.state id h)
 
-  pub begins_again : {p q : ℕ} → length id ≡ id_size → Found s v.middle v.active id (Place.Here p q) → Served s (on (begin id)) 3 0 s
+  pub begins_again : {p : Span} → length id ≡ id_size → Found s v.middle v.active id (Ok p) → Served s (on (begin id)) 3 0 s
   begins_again h f = refuse s w.state (begin id) (seen_load w) again (begin_again base w.state id (here w f).one h (found w f))
 
-  module _ {p : ℕ} (h : length id ≡ id_size) (f : Found s v.middle v.active id (Place.Before p)) where
+  module _ {p : ℕ} (h : length id ≡ id_size) (f : Found s v.middle v.active id (Err p)) where
     place : BeforeIn s v.middle id w.state.active v.used p
     place = not_here w f
 

@@ -23,7 +23,8 @@ use Rattle.layout.proofs.SizeLaws.{set_length, txn_length}
 use Rattle.layout.proofs.LoadLaws.{refuse, change, change_absent}
 use Rattle.room.specs.declared.View.{View}
 use Rattle.room.specs.Views.{Seen}
-use Rattle.places.specs.declared.finds.Place.{Place}
+use Rattle.std.specs.Prelude.{Ok, Err}
+use Rattle.fields.specs.declared.Span.{Span}
 use Rattle.places.specs.Finds.{Found}
 use Rattle.edits.specs.Leaving.{Emptied}
 use Rattle.edits.proofs.LaidLaws.{laid_entries, laid_active}
@@ -38,7 +39,7 @@ use Rattle.answers.proofs.LeftLaws.{left, left_is, left_many, here_bounds, here_
 use Rattle.answers.proofs.AdvanceLaws.{advance_changed, empty_advanced}
 
 -- the one that was found can leave
-pub commit_leaving : {s : List ℕ} {v : View} (w : Seen s v) {id : Bytes} {p q : ℕ} → Found s v.middle v.active id (Place.Here p q) → Leaving s v.used v.middle p q
+pub commit_leaving : {s : List ℕ} {v : View} (w : Seen s v) {id : Bytes} {p : Span} → Found s v.middle v.active id (Ok p) → Leaving s v.used v.middle p.from p.to
 commit_leaving w {id} f =
     let t = (here w f).one in
     let o = here_bounds w f in
@@ -54,7 +55,7 @@ commit_leaving w {id} f =
       short = rw (set_length any_length t.writes) (omega (arith, m, n, g.ceilings.marks, g.ceilings.bytes));
     }
 
-others_left : {s : List ℕ} {v : View} (w : Seen s v) {id : Bytes} {p q : ℕ} → Found s v.middle v.active id (Place.Here p q) → (v.active ≡ 1 → ⊥) → 0 < length (without id w.state.active)
+others_left : {s : List ℕ} {v : View} (w : Seen s v) {id : Bytes} {p : Span} → Found s v.middle v.active id (Ok p) → (v.active ≡ 1 → ⊥) → 0 < length (without id w.state.active)
 others_left w f k = rw (left_is w f) (omega (arith, k, left_many w f))
 
 module _ {s : List ℕ} {v : View} (w : Seen s v) {id : Bytes} {seq : ℕ} where
@@ -62,13 +63,13 @@ module _ {s : List ℕ} {v : View} (w : Seen s v) {id : Bytes} {seq : ℕ} where
   commit_refused h = refuse s w.state (commit id seq) (seen_load w) malformed (commit_malformed base w.state id seq h)
 
   module _ (h : length id ≡ id_size) where
-    pub commit_unknown : {p r : ℕ} {s' : List ℕ} → Found s v.middle v.active id (Place.Before p) → AdvancedTo s seq s' r → seq < 256 ^ number_size → Served s (on (commit id seq)) 1 r s'
+    pub commit_unknown : {p r : ℕ} {s' : List ℕ} → Found s v.middle v.active id (Err p) → AdvancedTo s seq s' r → seq < 256 ^ number_size → Served s (on (commit id seq)) 1 r s'
     commit_unknown {p} {r} {s'} f x b =
         let st = w.state in
         let y = advance_changed st x (seen_held w).last b refl (seen_laid w) in
         rw y.1 (change_absent s s' st _ (commit id seq) (seen_load w) y.0 _ refl (commit_absent base st id seq h (not_found w f)))
 
-    module _ {p q : ℕ} (f : Found s v.middle v.active id (Place.Here p q)) where
+    module _ {p : Span} (f : Found s v.middle v.active id (Ok p)) where
       pub commit_only : {r : ℕ} {s' : List ℕ} → v.active ≡ 1 → r ≡ max v.last seq → Emptied s r s' → seq < 256 ^ number_size → Served s (on (commit id seq)) 0 r s'
       commit_only {r} {s'} k e c b =
           let st = w.state in
@@ -80,7 +81,7 @@ module _ {s : List ℕ} {v : View} (w : Seen s v) {id : Bytes} {seq : ℕ} where
           let st = w.state in
           refuse s st (commit id seq) (seen_load w) full (commit_full base st id seq (here w f).one h (found w f) (others_left w f k) (omega (arith, m, w.entries)))
 
-      pub commit_entered : {s1 s2 s3 s4 : List ℕ} {r : ℕ} → (v.active ≡ 1 → ⊥) → v.entries < base.entries → Entered s v.used v.middle p q seq s1 → s2 ≡ paste s1 entry_count_at ((number count_size).write (v.entries + 1)) count_size
+      pub commit_entered : {s1 s2 s3 s4 : List ℕ} {r : ℕ} → (v.active ≡ 1 → ⊥) → v.entries < base.entries → Entered s v.used v.middle p.from p.to seq s1 → s2 ≡ paste s1 entry_count_at ((number count_size).write (v.entries + 1)) count_size
           → s3 ≡ paste s2 active_count_at ((number count_size).write (v.active - 1)) count_size → AdvancedTo s3 seq s4 r → seq < 256 ^ number_size → Served s (on (commit id seq)) 0 r s4
       commit_entered {s1} {s2} {s3} {s4} {r} k m x e2 e3 a b =
           let st = w.state in

@@ -18,7 +18,8 @@ use Rattle.layout.specs.States.{heads_of, set_active_count}
 use Rattle.layout.specs.Rows.{Row}
 use Rattle.room.specs.declared.View.{View}
 use Rattle.room.specs.Views.{Seen}
-use Rattle.places.specs.declared.finds.Place.{Place}
+use Rattle.std.specs.Prelude.{Ok}
+use Rattle.fields.specs.declared.Span.{Span}
 use Rattle.places.specs.Finds.{Found}
 use Rattle.edits.specs.Laid.{Laid, write_entries, write_active}
 use Rattle.edits.specs.Leaving.{Unpruned, Tells, Prunable}
@@ -42,7 +43,7 @@ module _ {s : List ℕ} {v : View} (w : Seen s v) where
   pub seen_prunable : Prunable s v.last v.entries v.active v.middle v.used
   seen_prunable = record { ceilings = base; state = w.state; stands = seen_unpruned; tells = seen_tells }
 
-  module _ {id : Bytes} {p q : ℕ} (f : Found s v.middle v.active id (Place.Here p q)) where
+  module _ {id : Bytes} {p : Span} (f : Found s v.middle v.active id (Ok p)) where
     -- the state without the one that was found
     abbrev pub rest : State
     rest = with_active (left w f) w.state
@@ -50,21 +51,21 @@ module _ {s : List ℕ} {v : View} (w : Seen s v) where
     pub rest_tells : Tells rest v.last v.entries (v.active - 1)
     rest_tells = record { last = sym w.last; entries = sym w.entries; active = omega (arith, left_many w f) }
 
-    module _ {s1 s2 : List ℕ} (x : Spliced s v.used p (q - p) [] s1) (e : s2 ≡ paste s1 active_count_at ((number count_size).write (v.active - 1)) count_size) where
-      pub here_laid : Laid base s s2 (v.used - (q - p)) (heads_of rest) (write_entries rest.entries) (write_active rest.active)
+    module _ {s1 s2 : List ℕ} (x : Spliced s v.used p.from (p.to - p.from) [] s1) (e : s2 ≡ paste s1 active_count_at ((number count_size).write (v.active - 1)) count_size) where
+      pub here_laid : Laid base s s2 (v.used - (p.to - p.from)) (heads_of rest) (write_entries rest.entries) (write_active rest.active)
       here_laid =
           let c : v.active - 1 ≡ length (left w f) = omega (arith, left_many w f) in
           relaid refl (ap (λ (k : ℕ). set_active_count k (heads_of w.state)) c) refl refl (laid_active (here_out w f x) (v.active - 1) e)
 
-      pub here_unpruned : Unpruned base s2 rest v.middle (v.used - (q - p))
+      pub here_unpruned : Unpruned base s2 rest v.middle (v.used - (p.to - p.from))
       here_unpruned =
           let d = here_laid in
           let oe = row_ok (entry_form any_length) none s entries_at w.state.entries v.middle (entry_row w) in
-          let ot = ok_append (txn_form any_length) none (here w f).front (here w f).back (row_ok (txn_form any_length) none s v.middle (here w f).front p (here w f).before) (λ o. row_ok (txn_form any_length) o s q (here w f).back v.used (here w f).after) in
+          let ot = ok_append (txn_form any_length) none (here w f).front (here w f).back (row_ok (txn_form any_length) none s v.middle (here w f).front p.from (here w f).before) (λ o. row_ok (txn_form any_length) o s p.to (here w f).back v.used (here w f).after) in
           record {
             laid = rebased d;
             entries = subst (Row (entry_form any_length) s2 entries_at w.state.entries) (sym (seen_middle w)) (laid_entry_row w.state.entries (left w f) d oe);
-            active = subst (λ (m : ℕ). Row (txn_form any_length) s2 m (left w f) (v.used - (q - p))) (sym (seen_middle w)) (laid_txn_row w.state.entries (left w f) d ot);
+            active = subst (λ (m : ℕ). Row (txn_form any_length) s2 m (left w f) (v.used - (p.to - p.from))) (sym (seen_middle w)) (laid_txn_row w.state.entries (left w f) d ot);
             started = rw (← left_is w f) (without_all id _ w.state.active seen_started);
             small = (seen_held w).last;
           }

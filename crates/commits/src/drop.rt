@@ -25,13 +25,13 @@ pub fn drop_active(room: &mut [u8], v: View, id: &[u8]) -> Result<Outcome, Refus
         return Ok(Outcome::Absent(kept as u64));
     };
     let gone = txn.to - txn.from;
-    remove(room, v.used, txn.from, gone);
-    write_two(room, ACTIVE_COUNT, v.active - 1);
     let rest = View {
         active: v.active - 1,
         used: v.used - gone,
         ..v
     };
+    remove(room, v.used, txn.from, gone);
+    write_two(room, ACTIVE_COUNT, rest.active);
     let kept = recycle_recent_committed_txns(room, rest);
     Ok(Outcome::Done(kept as u64))
 }

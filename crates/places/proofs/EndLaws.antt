@@ -1,6 +1,6 @@
 -- Where a record ends by its parts, and going from one record of a row to the next.
-use Prim.Native.Nat.{ℕ, ◌+◌, ◌≤◌, ◌<◌}
-use mathlib.Core.Path.{◌≡◌, refl, sym, ◌∙◌}
+use Prim.Native.Nat.{ℕ, ◌+◌}
+use mathlib.Core.Path.{◌≡◌, sym, ◌∙◌}
 use mathlib.Core.Bool.{Bool}
 use mathlib.Core.List.{List}
 use native.Mathlib.Omega.{arith}
@@ -10,11 +10,11 @@ use Rattle.codec.specs.Formats.{number}
 use Rattle.codec.specs.Stands.{Stands}
 use Rattle.machine.specs.State.{Bytes, Txn}
 use Rattle.layout.specs.Offsets.{count_size, length_size, tag_size, writes_at, bound_key_at, any_length}
-use Rattle.layout.specs.Keys.{key_form, set_form, below, bound_form, range_form, ranges_form, any_order}
+use Rattle.layout.specs.Keys.{key_form, set_form, bound_form, ranges_form}
 use Rattle.layout.specs.Records.{txn_form}
 use Rattle.layout.specs.Rows.{Fills, Here, Rows, Ends}
 use Rattle.layout.proofs.FillLaws.{fills_one, number_read_is}
-use Rattle.layout.proofs.OpenLaws.{open_key, open_set, open_bound, open_ranges, open_txn, OpenList}
+use Rattle.layout.proofs.OpenLaws.{open_key, open_bound, open_txn, OpenList}
 use Rattle.places.specs.Rows.{RowEnds}
 
 pub here_of : {A : Type 0} (C : Codec A) {s : List ℕ} {at e : ℕ} {a : A} → Fills C s at a e → Here C s at

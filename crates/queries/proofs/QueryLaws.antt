@@ -1,7 +1,7 @@
 -- Each way that check and minimum end.
 use Prim.Native.Nat.{ℕ}
 use mathlib.Core.Path.{◌≡◌, refl, sym, ap, ◌∙◌, subst}
-use mathlib.Core.Bool.{Bool}
+use mathlib.Core.Bool.{Bool, true, false}
 use mathlib.Core.List.{List, [], ◌∷◌}
 use native.Mathlib.Omega.{arith}
 use lib.ListN.{length}
@@ -13,7 +13,9 @@ use Rattle.machine.specs.Serve.{verdict}
 use Rattle.layout.specs.Offsets.{id_size, entries_at}
 use Rattle.layout.specs.Rooms.{Served}
 use Rattle.layout.proofs.LoadLaws.{refuse, look, look_absent}
-use Rattle.places.specs.declared.finds.Place.{Place}
+use mir.Val.{bool_byte}
+use Rattle.std.specs.Prelude.{Ok, Err}
+use Rattle.fields.specs.declared.Span.{Span}
 use Rattle.places.specs.Finds.{Found, LowestIs, lowest}
 use Rattle.places.proofs.LowLaws.{lowest_least}
 use Rattle.search.specs.Search.{Searched}
@@ -26,17 +28,22 @@ use Rattle.answers.proofs.FoundLaws.{not_found, here, found}
 
 -- ---- check
 
+-- the verdict as a number
+pub verdict_is : (b : Bool) → bool_byte b ≡ verdict b
+verdict_is true = refl
+verdict_is false = refl
+
 module _ (s : List ℕ) (v : View) (id : Bytes) (w : Seen s v) where
   pub checks_malformed : (length id ≡ id_size → ⊥) → Served s (on (check id)) 2 0 s
   checks_malformed h = refuse s w.state (check id) (seen_load w) malformed (check_malformed base w.state id h)
 
-  pub checks_absent : {p : ℕ} → length id ≡ id_size → Found s v.middle v.active id (Place.Before p) → Served s (on (check id)) 1 0 s
+  pub checks_absent : {p : ℕ} → length id ≡ id_size → Found s v.middle v.active id (Err p) → Served s (on (check id)) 1 0 s
   checks_absent {p} h f = look_absent s w.state (check id) (seen_load w) 0 (check_absent base w.state id h (not_found w f))
 
-  pub checks : {p q : ℕ} (f : Found s v.middle v.active id (Place.Here p q)) {b : Bool} → length id ≡ id_size → Searched s entries_at v.entries p b → Served s (on (check id)) 0 (verdict b) s
-  checks {p} {q} f {b} h r =
+  pub checks : {p : Span} (f : Found s v.middle v.active id (Ok p)) {b : Bool} → length id ≡ id_size → Searched s entries_at v.entries p.from b → Served s (on (check id)) 0 (verdict b) s
+  checks {p} f {b} h r =
       let t = (here w f).one in
-      let e : b ≡ conflict t w.state.entries = r.is w.state.entries v.middle t q (entry_row w) (sym w.entries) (here w f).fills in
+      let e : b ≡ conflict t w.state.entries = r.is w.state.entries v.middle t p.to (entry_row w) (sym w.entries) (here w f).fills in
       subst (λ (x : Bool). Served s (on (check id)) 0 (verdict x) s) (sym e) (look s w.state (check id) (seen_load w) (verdict (conflict t w.state.entries)) (check_done base w.state id t h (found w f)))
 
 -- ---- minimum
