@@ -149,12 +149,18 @@ def above(names, listed):
     return [name for name in listed if name in reached]
 
 
+def named(words):
+    """Words as the checker makes one name of them."""
+    return "".join(word[0].upper() + word[1:] for word in re.findall(r"\w+", words))
+
+
 def heads(text):
-    """The functions of a source text: where each begins, its name with the type's before a method's, and its first line."""
+    """The functions of a source text: where each begins, its name, and its first line. A method's
+    name has the type's before it, and that of the trait where there is one: `KindTryFromU8::try_from`."""
     of, at, found = "", 0, []
     for line in text.splitlines(keepends=True):
-        if head := re.match(r"impl (\w+)", line):
-            of = head[1] + "::"
+        if head := re.match(r"impl(?:<[^>]*>)? (?:([\w<>, :]+) for )?(\w+)", line):
+            of = named(head[2]) + named(re.sub(r"\w+::", "", head[1] or "")) + "::"
         elif line.startswith("}"):
             of = ""
         elif head := re.match(r".*\bfn (\w+)[(<]", line.split("//")[0]):

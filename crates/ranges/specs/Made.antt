@@ -9,10 +9,13 @@ use Rattle.ranges.specs.declared.made.RangeError.TheVariants.{LongKey, EmptyRang
 use Rattle.ranges.specs.declared.made.MadeBound.{MadeBound}
 
 -- document 01's number of each answer
+abbrev pub refusal_status : RangeError → ℕ
+refusal_status LongKey = 4
+refusal_status EmptyRange = 5
+
 abbrev pub status : {A : Type 0} → Result A RangeError → ℕ
 status (Ok a) = 0
-status (Err LongKey) = 4
-status (Err EmptyRange) = 5
+status (Err e) = refusal_status e
 
 abbrev pub too_long : Bound → Bool
 too_long unbounded = false

@@ -1,19 +1,18 @@
 -- What crosses the boundary: numbers for kinds and sides, and what is made of them as the structs that the host reads.
-use Rattle.std.specs.Prelude.{ℕ, true, false, cond, List, eqb}
+use Rattle.std.specs.Prelude.{ℕ, true, false, cond, List, eqb, Option, Some, None, Result, Ok, Err}
 use Rattle.kinds.specs.declared.kind.Kind.{Kind}
 use Rattle.kinds.specs.declared.kind.Kind.TheVariants.{Unbounded, Included, Excluded}
 use Rattle.bounds.specs.declared.sides.Side.{Side}
 use Rattle.bounds.specs.declared.sides.Side.TheVariants.{First, Second}
-use Rattle.bounds.specs.declared.sides.Combined.{Combined}
-use Rattle.bounds.specs.declared.sides.Combined.TheVariants.{Of, Nothing}
+use Rattle.bounds.specs.declared.sides.Sides.{Sides}
 use Rattle.bounds.specs.declared.comparable_range.ComparableRange.{ComparableRange}
-use Rattle.kinds.specs.Bounds.{Bound, bound}
+use Rattle.kinds.specs.Bounds.{Bound, bound, bound_tag, unbounded}
 use Rattle.bounds.specs.Ranges.{Range, range}
 use Rattle.bounds.specs.Sides.{sided}
 use Rattle.ranges.specs.declared.made.MadeBound.{MadeBound}
 use Rattle.ranges.specs.declared.bytes_range.MadeRange.{MadeRange}
-use Rattle.ranges.specs.Made.{status}
-use Rattle.fields.specs.Fields.{bound_tag}
+use Rattle.ranges.specs.declared.made.RangeError.{RangeError}
+use Rattle.ranges.specs.Made.{refusal_status, made_of}
 use Rattle.stranvek.specs.declared.boundary.Pair.{Pair}
 use Rattle.stranvek.specs.declared.boundary.Key.{Key}
 use Rattle.stranvek.specs.declared.boundary.MadeKeys.{MadeKeys}
@@ -36,21 +35,26 @@ side_number First = 0
 side_number Second = 1
 
 -- a pair by the side that each of its bounds comes from; nothing is unbounded, from the first
-abbrev pub paired : Combined → Kind → Kind → Kind → Kind → Pair
-paired (Of s e) a b c d =
+abbrev pub paired : Option Sides → Kind → Kind → Kind → Kind → Pair
+paired (Some p) a b c d =
     record {
       status = 0;
       given = true;
-      start_kind = bound_tag (sided s a b);
-      start_side = side_number s;
-      end_kind = bound_tag (sided e c d);
-      end_side = side_number e;
+      start_kind = bound_tag (sided p.start a b);
+      start_side = side_number p.start;
+      end_kind = bound_tag (sided p.end c d);
+      end_side = side_number p.end;
     }
-paired Nothing a b c d =
+paired None a b c d =
     record { status = 0; given = false; start_kind = bound_tag Unbounded; start_side = 0; end_kind = bound_tag Unbounded; end_side = 0 }
 
 abbrev pub key : MadeBound → Key
 key m = record { kind = bound_tag m.kind; len = m.len; bytes = m.bytes }
 
-abbrev pub made_keys : MadeRange → MadeKeys
-made_keys m = record { status = status m.making; start = key m.start; end = key m.end }
+-- "length 0 and unbounded when refused or none"
+abbrev pub no_key : Key
+no_key = key (made_of unbounded)
+
+abbrev pub made_keys : Result MadeRange RangeError → MadeKeys
+made_keys (Ok m) = record { status = 0; start = key m.start; end = key m.end }
+made_keys (Err e) = record { status = refusal_status e; start = no_key; end = no_key }

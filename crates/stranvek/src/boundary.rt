@@ -1,16 +1,15 @@
 // What crosses the boundary, beside its calls: the structs that the host reads, and numbers for kinds, sides and statuses.
 ghost use Rattle.std.specs.Prelude.{◌≡◌};
-ghost use Rattle.ranges.specs.Made.{status};
-ghost use Rattle.fields.specs.Fields.{bound_tag};
-ghost use Rattle.stranvek.specs.Boundary.{kind_at, kinds_at, side_number, paired, key, made_keys};
+ghost use Rattle.ranges.specs.Made.{refusal_status};
+ghost use Rattle.stranvek.specs.Boundary.{kind_at, kinds_at, paired, key, made_keys};
+ghost use Rattle.stranvek.specs.Answers.{comparing, told, ranged, made_key};
 
 use bounds::comparable_range::ComparableRange;
-use bounds::sides::{Combined, Side};
-use fields::{EXCLUDED, INCLUDED, UNBOUNDED};
+use bounds::sides::Sides;
 use keys::KEY_LIMIT;
-use kinds::kind::Kind;
-use ranges::bytes_range::MadeRange;
-use ranges::made::{MadeBound, Making};
+use kinds::kind::{Kind, UNBOUNDED};
+use ranges::bytes_range::{BytesRange, MadeRange};
+use ranges::made::{MadeBound, RangeError};
 
 #[repr(C)]
 #[derive(Clone, Copy)]
@@ -19,11 +18,27 @@ pub struct Compared {
     pub order: i8,
 }
 
+impl From<i8> for Compared {
+    ghost from_gives = { λ order answer. answer ≡ comparing order };
+
+    fn from(order: i8) -> Self {
+        Compared { status: 0, order }
+    }
+}
+
 #[repr(C)]
 #[derive(Clone, Copy)]
 pub struct Told {
     pub status: u8,
     pub holds: bool,
+}
+
+impl From<bool> for Told {
+    ghost from_gives = { λ holds answer. answer ≡ told holds };
+
+    fn from(holds: bool) -> Self {
+        Told { status: 0, holds }
+    }
 }
 
 #[repr(C)]
@@ -45,6 +60,25 @@ pub struct NewRange {
     pub end_kind: u8,
 }
 
+impl From<Result<BytesRange, RangeError>> for NewRange {
+    ghost from_gives = { λ made answer. answer ≡ ranged made };
+
+    fn from(made: Result<BytesRange, RangeError>) -> Self {
+        match made {
+            Ok(range) => NewRange {
+                status: 0,
+                start_kind: u8::from(range.inner.start),
+                end_kind: u8::from(range.inner.end),
+            },
+            Err(error) => NewRange {
+                status: status_of(error),
+                start_kind: UNBOUNDED,
+                end_kind: UNBOUNDED,
+            },
+        }
+    }
+}
+
 #[repr(C)]
 #[derive(Clone, Copy)]
 pub struct Key {
@@ -53,11 +87,41 @@ pub struct Key {
     pub bytes: [u8; KEY_LIMIT],
 }
 
+impl From<MadeBound> for Key {
+    ghost from_gives = { λ made answer. answer ≡ key made };
+
+    fn from(made: MadeBound) -> Self {
+        let MadeBound { kind, len, bytes } = made;
+        Key {
+            kind: u8::from(kind),
+            len,
+            bytes,
+        }
+    }
+}
+
 #[repr(C)]
 #[derive(Clone, Copy)]
 pub struct MadeKey {
     pub status: u8,
     pub key: Key,
+}
+
+impl From<Result<MadeBound, RangeError>> for MadeKey {
+    ghost from_gives = { λ made answer. answer ≡ made_key made };
+
+    fn from(made: Result<MadeBound, RangeError>) -> Self {
+        match made {
+            Ok(bound) => MadeKey {
+                status: 0,
+                key: Key::from(bound),
+            },
+            Err(error) => MadeKey {
+                status: status_of(error),
+                key: Key::from(MadeBound::unbounded()),
+            },
+        }
+    }
 }
 
 #[repr(C)]
@@ -68,27 +132,33 @@ pub struct MadeKeys {
     pub end: Key,
 }
 
+impl From<Result<MadeRange, RangeError>> for MadeKeys {
+    ghost from_gives = { λ made answer. answer ≡ made_keys made };
+
+    fn from(made: Result<MadeRange, RangeError>) -> Self {
+        match made {
+            Ok(range) => MadeKeys {
+                status: 0,
+                start: Key::from(range.start),
+                end: Key::from(range.end),
+            },
+            Err(error) => {
+                let nothing = Key::from(MadeBound::unbounded());
+                MadeKeys {
+                    status: status_of(error),
+                    start: nothing,
+                    end: nothing,
+                }
+            }
+        }
+    }
+}
+
 // A number that names no kind is read as unbounded, the widest: a wrong number can only add keys to a range.
 pub fn kind_at(number: u8) -> Kind
     ensures { result ≡ kind_at number }
 {
-    if number == INCLUDED {
-        return Kind::Included;
-    }
-    if number == EXCLUDED {
-        return Kind::Excluded;
-    }
-    Kind::UNBOUNDED
-}
-
-pub fn number_of(kind: Kind) -> u8
-    ensures { result ≡ bound_tag kind }
-{
-    match kind {
-        Kind::Unbounded => UNBOUNDED,
-        Kind::Included => INCLUDED,
-        Kind::Excluded => EXCLUDED,
-    }
+    Kind::try_from(number).unwrap_or(Kind::UNBOUNDED)
 }
 
 pub fn range_at(start: u8, end: u8) -> ComparableRange
@@ -97,34 +167,28 @@ pub fn range_at(start: u8, end: u8) -> ComparableRange
     ComparableRange::new(kind_at(start), kind_at(end))
 }
 
-fn side_number(side: Side) -> u8
-    ensures { result ≡ side_number side }
+fn status_of(error: RangeError) -> u8
+    ensures { result ≡ refusal_status error }
 {
-    match side {
-        Side::First => 0,
-        Side::Second => 1,
+    match error {
+        RangeError::LongKey => 4,
+        RangeError::EmptyRange => 5,
     }
 }
 
-pub fn pair_of(combined: Combined, a: ComparableRange, b: ComparableRange) -> Pair
-    ensures { result ≡ paired combined a.start b.start a.end b.end }
+pub fn pair_of(sides: Option<Sides>, a: ComparableRange, b: ComparableRange) -> Pair
+    ensures { result ≡ paired sides a.start b.start a.end b.end }
 {
-    match combined {
-        Combined::Of { start, end } => {
-            let k = a.start;
-            let l = b.start;
-            let m = a.end;
-            let n = b.end;
-            Pair {
-                status: 0,
-                given: true,
-                start_kind: number_of(start.kind(k, l)),
-                start_side: side_number(start),
-                end_kind: number_of(end.kind(m, n)),
-                end_side: side_number(end),
-            }
-        }
-        Combined::Nothing => Pair {
+    match sides {
+        Some(Sides { start, end }) => Pair {
+            status: 0,
+            given: true,
+            start_kind: u8::from(start.pick(a.start, b.start)),
+            start_side: start as u8,
+            end_kind: u8::from(end.pick(a.end, b.end)),
+            end_side: end as u8,
+        },
+        None => Pair {
             status: 0,
             given: false,
             start_kind: UNBOUNDED,
@@ -132,40 +196,5 @@ pub fn pair_of(combined: Combined, a: ComparableRange, b: ComparableRange) -> Pa
             end_kind: UNBOUNDED,
             end_side: 0,
         },
-    }
-}
-
-pub fn status_of(making: Making) -> u8
-    ensures { result ≡ status making }
-{
-    match making {
-        Making::Done => 0,
-        Making::LongKey => 4,
-        Making::EmptyRange => 5,
-    }
-}
-
-pub fn key_of(made: MadeBound) -> Key
-    ensures { result ≡ key made }
-{
-    let kind = made.kind;
-    let bytes = made.bytes;
-    Key {
-        kind: number_of(kind),
-        len: made.len,
-        bytes,
-    }
-}
-
-pub fn keys_of(made: MadeRange) -> MadeKeys
-    ensures { result ≡ made_keys made }
-{
-    let making = made.making;
-    let start = made.start;
-    let end = made.end;
-    MadeKeys {
-        status: status_of(making),
-        start: key_of(start),
-        end: key_of(end),
     }
 }

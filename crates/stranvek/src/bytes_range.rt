@@ -10,40 +10,29 @@ ghost use Rattle.stranvek.specs.Boundary.{kind_at, bound_at, range_at, paired, m
 ghost use Rattle.stranvek.specs.Answers.{compared, told, new_range, made_key};
 
 use crate::boundary::{
-    Compared, MadeKey, MadeKeys, NewRange, Pair, Told, key_of, keys_of, kind_at, number_of,
-    pair_of, range_at, status_of,
+    Compared, MadeKey, MadeKeys, NewRange, Pair, Told, kind_at, pair_of, range_at,
 };
-use fields::UNBOUNDED;
 use ranges::bytes_range::BytesRange;
 
 #[unsafe(no_mangle)]
 pub extern "C" fn stranvek_compare(a: &[u8], b: &[u8]) -> Compared
     ensures { result ≡ compared (order a.now b.now) }
 {
-    Compared {
-        status: 0,
-        order: keys::compare(a, b),
-    }
+    Compared::from(keys::compare(a, b))
 }
 
 #[unsafe(no_mangle)]
 pub extern "C" fn stranvek_equal(a: &[u8], b: &[u8]) -> Told
     ensures { result ≡ told (is_same (order a.now b.now)) }
 {
-    Told {
-        status: 0,
-        holds: keys::equal(a, b),
-    }
+    Told::from(keys::equal(a, b))
 }
 
 #[unsafe(no_mangle)]
 pub extern "C" fn stranvek_starts_with(key: &[u8], prefix: &[u8]) -> Told
     ensures { result ≡ told (starts_with prefix.now key.now) }
 {
-    Told {
-        status: 0,
-        holds: keys::starts_with(key, prefix),
-    }
+    Told::from(keys::starts_with(key, prefix))
 }
 
 #[unsafe(no_mangle)]
@@ -56,10 +45,7 @@ pub extern "C" fn stranvek_compare_start(
     ensures { result ≡ compared (start_order (bound_at a_kind a_key.now) (bound_at b_kind b_key.now)) }
 {
     let a = kind_at(a_kind);
-    Compared {
-        status: 0,
-        order: a.compare_start(a_key, kind_at(b_kind), b_key),
-    }
+    Compared::from(a.compare_start(a_key, kind_at(b_kind), b_key))
 }
 
 #[unsafe(no_mangle)]
@@ -72,10 +58,7 @@ pub extern "C" fn stranvek_compare_end(
     ensures { result ≡ compared (end_order (bound_at a_kind a_key.now) (bound_at b_kind b_key.now)) }
 {
     let a = kind_at(a_kind);
-    Compared {
-        status: 0,
-        order: a.compare_end(a_key, kind_at(b_kind), b_key),
-    }
+    Compared::from(a.compare_end(a_key, kind_at(b_kind), b_key))
 }
 
 #[unsafe(no_mangle)]
@@ -93,10 +76,7 @@ pub extern "C" fn stranvek_compare_range(
 {
     let a = range_at(start_kind, end_kind);
     let b = range_at(other_start_kind, other_end_kind);
-    Compared {
-        status: 0,
-        order: a.compare(start_key, end_key, b, other_start_key, other_end_key),
-    }
+    Compared::from(a.compare(start_key, end_key, b, other_start_key, other_end_key))
 }
 
 #[unsafe(no_mangle)]
@@ -109,10 +89,7 @@ pub extern "C" fn stranvek_non_empty(
     ensures { result ≡ told (not_empty (range_at start_kind start_key.now end_kind end_key.now)) }
 {
     let a = range_at(start_kind, end_kind);
-    Told {
-        status: 0,
-        holds: a.non_empty(start_key, end_key),
-    }
+    Told::from(a.non_empty(start_key, end_key))
 }
 
 #[unsafe(no_mangle)]
@@ -126,10 +103,7 @@ pub extern "C" fn stranvek_contains(
     ensures { result ≡ told (holds (range_at start_kind start_key.now end_kind end_key.now) key.now) }
 {
     let a = range_at(start_kind, end_kind);
-    Told {
-        status: 0,
-        holds: a.contains(start_key, end_key, key),
-    }
+    Told::from(a.contains(start_key, end_key, key))
 }
 
 #[unsafe(no_mangle)]
@@ -147,10 +121,7 @@ pub extern "C" fn stranvek_are_adjacent(
 {
     let a = range_at(start_kind, end_kind);
     let b = range_at(other_start_kind, other_end_kind);
-    Told {
-        status: 0,
-        holds: a.are_adjacent(end_key, b, other_start_key),
-    }
+    Told::from(a.are_adjacent(end_key, b, other_start_key))
 }
 
 #[unsafe(no_mangle)]
@@ -209,23 +180,14 @@ pub extern "C" fn stranvek_as_point(
     let a = BytesRange {
         inner: range_at(start_kind, end_kind),
     };
-    Told {
-        status: 0,
-        holds: a.as_point(start_key, end_key),
-    }
+    Told::from(a.as_point(start_key, end_key))
 }
 
 #[unsafe(no_mangle)]
 pub extern "C" fn stranvek_increment_prefix(prefix: &[u8]) -> MadeKey
     ensures { result ≡ made_key (made_increment prefix.now) }
 {
-    let made = BytesRange::increment_prefix(prefix);
-    let making = made.making;
-    let bound = made.bound;
-    MadeKey {
-        status: status_of(making),
-        key: key_of(bound),
-    }
+    MadeKey::from(BytesRange::increment_prefix(prefix))
 }
 
 #[unsafe(no_mangle)]
@@ -237,28 +199,14 @@ pub extern "C" fn stranvek_new_range(
 ) -> NewRange
     ensures { result ≡ new_range (new_of (range_at start_kind start_key.now end_kind end_key.now)) (kind_at start_kind) (kind_at end_kind) }
 {
-    let start = kind_at(start_kind);
-    let end = kind_at(end_kind);
-    let making = BytesRange::new(start, start_key, end, end_key);
-    if making.is_done() {
-        return NewRange {
-            status: 0,
-            start_kind: number_of(start),
-            end_kind: number_of(end),
-        };
-    }
-    NewRange {
-        status: status_of(making),
-        start_kind: UNBOUNDED,
-        end_kind: UNBOUNDED,
-    }
+    NewRange::from(BytesRange::new(kind_at(start_kind), start_key, kind_at(end_kind), end_key))
 }
 
 #[unsafe(no_mangle)]
 pub extern "C" fn stranvek_from_prefix(prefix: &[u8]) -> MadeKeys
     ensures { result ≡ made_keys (made_range (prefix_range prefix.now)) }
 {
-    keys_of(BytesRange::from_prefix(prefix))
+    MadeKeys::from(BytesRange::from_prefix(prefix))
 }
 
 #[unsafe(no_mangle)]
@@ -272,5 +220,5 @@ pub extern "C" fn stranvek_from_prefix_and_subrange(
     ensures { result ≡ made_keys (made_range (subrange_of prefix.now (range_at start_kind start_key.now end_kind end_key.now))) }
 {
     let subrange = range_at(start_kind, end_kind);
-    keys_of(BytesRange::from_prefix_and_subrange(prefix, subrange, start_key, end_key))
+    MadeKeys::from(BytesRange::from_prefix_and_subrange(prefix, subrange, start_key, end_key))
 }

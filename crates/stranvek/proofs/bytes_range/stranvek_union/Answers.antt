@@ -1,8 +1,0 @@
--- The answer for the two pairs that the numbers name, as sides and numbers of kinds.
-use mathlib.Core.Path.{◌∙◌}
-use Rattle.bounds.specs.Ranges.{union_of}
-use Rattle.stranvek.proofs.AnswerLaws.{pairs}
-use Rattle.stranvek.proofs.bytes_range.stranvek_union.Goals as goal
-
-pub returns : goal.returns
-returns c = c.pair_of.ensures ∙ pairs union_of _ _ _ _ c.union.ensures c.range_at-a.ensures c.range_at-b.ensures
