@@ -71,9 +71,6 @@ row_long s at [] e r = omega (arith, r.0)
 row_long s at (k ∷ ks) e r = omega (arith, (open_key any_length r.first).ends, row_long s r.end ks e r.rest)
 
 module _ {d₀ : Bytes} {set₀ : Set} {list : Bytes} {space₀ : Space} {d : Bytes} {set : Set} {space : Space} {at : ℕ} (v : Adding d₀ set₀ list space₀ d set space at) where
-  pub rows_now : Rows key_codec d 0 set.count
-  rows_now = record { vals = v.rest.ks; end = set.used; row = v.rest.row; count = v.rest.count }
-
   pub end_inside : (set.count ≤ set.used) × (set.used ≤ length d)
   end_inside = (omega (arith, row_long d 0 v.rest.ks set.used v.rest.row, v.rest.count), (row_inside key_codec d 0 v.rest.ks set.used v.rest.row).1)
 
@@ -84,11 +81,6 @@ module _ {d₀ : Bytes} {set₀ : Set} {list : Bytes} {space₀ : Space} {d : By
       let q = row_one key_codec d₀ 0 ks v.start.ks set₀.used set₀.used r v.start.row (c ∙ sym v.start.count) in
       let k : keys ≡ v.start.keys = some-injective keys v.start.keys (sym l ∙ v.start.listed) in
       rw (q.0, k, v.same) x
-
-  -- the list reads to its end, so no next key is bad
-  pub never_bad : (r : Result (Option Span) Malformed) → NextIs list at r → IsOk r
-  never_bad (Ok o) x = refl
-  never_bad (Err e) x = absurd (none-ne-some v.rest.keys (sym x.breaks ∙ v.rest.listed))
 
   module _ {r : Result (Option Span) Malformed} (next : NextIs list at r) where
     pub all_added : r ≡ Ok None → InsertedIs d₀ set₀ list space₀ d (Ok set)
@@ -114,9 +106,6 @@ module _ {d₀ : Bytes} {set₀ : Set} {list : Bytes} {space₀ : Space} {d : By
 
     i : ItemAt key_list list at key_tag from to (slice from to list)
     i = rw q at next
-
-    pub turn_less : length list - to < length list - at
-    turn_less = omega (arith, i)
 
     now_first : Took v.rest.keys (lent list from to) (key_list (drop to list))
     now_first = took v.rest.keys (lent list from to) (key_list (drop to list)) (sym v.rest.listed ∙ i.reads ∙ ap (λ (k : Bytes). before k (key_list (drop to list))) (drop_take from to list))

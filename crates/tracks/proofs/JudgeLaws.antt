@@ -46,22 +46,15 @@ one_long n r h = not_true (short_range n r) (λ e. no h ((and-eq-true_iff (leb (
     no (inl a) e = omega (arith, a, leb-true (length (key_of r.start)) n e.0)
     no (inr a) e = omega (arith, a, leb-true (length (key_of r.end)) n e.1)
 
-abbrev Judged : Type 0
-Judged = Result ℕ Refusal
-
-pub judged_malformed : {bs : Bytes} (r : Judged) → IsErrAnd r (λ (x : Refusal). x ≡ Refusal.Malformed) → NoBoundsIn bs → r ≡ judged (bounds_of bs)
-judged_malformed (Ok n) e b = absurd e
-judged_malformed (Err x) e b = rw e (sym (ap judged b.breaks))
-
 module _ {bs : Bytes} {p : BoundPlaces} (b : BoundsAt bs p) where
   -- where the keys stand
-  pub record Within : Type 0 where
+  record Within : Type 0 where
     pub start : p.start.key.from ≤ p.start.key.to
     pub middle : p.start.key.to ≤ p.end.key.from
     pub end : p.end.key.from ≤ p.end.key.to
     pub whole : p.end.key.to ≡ length bs
 
-  pub keys_within : Within
+  keys_within : Within
   keys_within =
       record {
         start = omega (arith, b.start_ends);

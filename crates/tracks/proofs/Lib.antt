@@ -11,4 +11,3 @@ pub mod BoundsLaws
 pub mod AppendLaws
 pub mod JudgeLaws
 pub mod RangeLaws
-pub mod RefusedLaws

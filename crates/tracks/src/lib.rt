@@ -37,7 +37,7 @@ impl From<Full> for Refusal {
     }
 }
 
-// Puts the keys of a list into the set at a place, as far as there is space for new ones; answers how many are new.
+// Puts the keys of a list into the set at a place, if there is space for the new ones; answers how many are new.
 fn grow_set(
     room: &mut [u8],
     used: usize,

@@ -76,7 +76,7 @@ fn find_place(draft: &[u8], count: usize, key: &[u8]) -> Option<usize>
     Some(at)
 }
 
-// Puts the keys of a list into a set in a draft, as far as there is space for new ones.
+// Puts the keys of a list into a set in a draft, if there is space for the new ones.
 pub fn insert_all(
     draft: &mut [u8],
     mut set: Set,
@@ -89,16 +89,17 @@ pub fn insert_all(
     let mut at = 0;
     // The list reads to its end, as `Ready` says.
     while let Some(key) = next_key(list, at).unwrap() {
-        if let Some(place) = find_place(draft, set.count, &list[key.from..key.to]) {
-            let size = key.to - key.from;
-            space = space.spend(size)?;
-            splice(draft, set.used, place, 0, &list[key.from - LENGTH..key.to]);
-            set = Set {
-                used: set.used + LENGTH + size,
-                count: set.count + 1,
-            };
-        }
         at = key.to;
+        let Some(place) = find_place(draft, set.count, &list[key.from..key.to]) else {
+            continue;
+        };
+        let size = key.to - key.from;
+        space = space.spend(size)?;
+        splice(draft, set.used, place, 0, &list[key.from - LENGTH..key.to]);
+        set = Set {
+            used: set.used + LENGTH + size,
+            count: set.count + 1,
+        };
     }
     Ok(set)
 }
