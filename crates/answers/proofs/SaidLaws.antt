@@ -2,9 +2,7 @@
 use Prim.Native.Nat.{ℕ}
 use mathlib.Core.Path.{◌≡◌, sym, subst}
 use mathlib.Core.List.{List}
-use Rattle.std.specs.Prelude.{Result, Err}
-use Rattle.std.specs.Result.{IsErrAnd}
-use Rattle.std.proofs.lemmas.Result.{err_from_is_err_and}
+use Rattle.std.specs.Prelude.{Result, Ok, Err, IsErrAnd}
 use Rattle.machine.specs.Calls.{Call}
 use Rattle.layout.specs.Rooms.{Served}
 use Rattle.answers.specs.declared.Answer.{Answer}
@@ -18,4 +16,5 @@ said {s} {s'} {c} {n} {v} {r} h w =
 
 -- at the exit of a `?`: the refusal that the error is made into
 pub refuses : {s s' : List ℕ} {c : Call} (e : Refusal) (r : Result Outcome Refusal) → IsErrAnd r (λ x. x ≡ e) → Served s c (refusal_number e) 0 s' → Served s c (status_of r) (value_of r) s'
-refuses e r h w = let p = err_from_is_err_and r h in rw (p.1, p.2) w
+refuses e (Ok o) h w = absurd h
+refuses e (Err y) h w = rw h w

@@ -3,7 +3,10 @@ use Prim.Native.Nat.{ℕ, ◌+◌, ◌≤◌}
 use mathlib.Core.Path.{◌≡◌, sym, ap, ◌∙◌}
 use mathlib.Core.List.{List}
 use lib.ListN.{length}
-use Rattle.std.specs.Prelude.{Result}
+use native.Mathlib.Omega.{arith}
+use Rattle.std.specs.Prelude.{Option as Maybe, Some, None, Result, Err}
+use Rattle.std.specs.Option.{ok_or}
+use Rattle.std.specs.Result.{IsErrAnd}
 use Rattle.fields.specs.declared.Span.{Span}
 use Rattle.machine.specs.State.{Bytes, base}
 use Rattle.machine.specs.Calls.{Op, on, holding}
@@ -18,7 +21,11 @@ use Rattle.layout.proofs.LoadLaws.{Held, no_state}
 use Rattle.edits.specs.Laid.{Laid, write_entries, write_active}
 use Rattle.places.specs.Finds.{Found, PlaceIn}
 use Rattle.room.specs.declared.View.{View}
-use Rattle.room.specs.Views.{Seen, HoldsNone}
+use Rattle.room.specs.Views.{Seen, HoldsNone, Opening}
+use Rattle.answers.specs.declared.Outcome.{Outcome}
+use Rattle.answers.specs.declared.Refusal.{Refusal}
+use Rattle.answers.specs.Says.{refusal_number, status_of, value_of}
+use Rattle.answers.proofs.SaidLaws.{refuses}
 use Rattle.answers.proofs.SightLaws.{Rowed, sight_load, sight_held, sight_laid, sight_short, sight_rows}
 
 -- every call on a room that holds no state
@@ -59,3 +66,8 @@ module _ {s : List ℕ} {v : View} (w : Seen s v) where
   -- where the search for an id among the active ones ended
   pub found_in : (id : Bytes) (r : Result Span ℕ) → Found s v.middle v.active id r → PlaceIn s v.middle id w.state.active v.used r
   found_in id r f = f.is w.state.active v.used active_row (sym w.active)
+
+-- a room that does not open, at the exit of the `?` behind `ok_or`
+pub no_view : {s : List ℕ} {op : Op} (o : Maybe View) (e : Refusal) (r : Result Outcome Refusal) → Opening s o → Err e ≡ ok_or o Refusal.NoState → IsErrAnd r (λ x. x ≡ e) → Served s (on op) (status_of r) (value_of r) s
+no_view {op = op} None e r w h g = refuses e r g (let q : refusal_number e ≡ 7 = grind arith in rw q (seen_nothing op w))
+no_view (Some v) e r w h g = absurd (grind arith)

@@ -97,9 +97,6 @@ module _ (limit : ℕ) (s : List ℕ) (at : ℕ) where
           c : Got (some_ranges limit) s u.end x
           c = as_ranges limit ranges
 
-          pub join_ranges : (sets.marks + sets.bytes ≤ sets.end) × (sets.end + x.marks + x.bytes ≤ x.end)
-          join_ranges = rw es (omega (arith, a.fits, b.fits), omega (arith, c.fits))
-
           whole : Got (a_txn limit) s at (record { end = x.end; marks = w.marks + u.marks + x.marks; bytes = w.bytes + u.bytes + x.bytes; high = n })
           unfolding txn_form via bind
           whole = record {

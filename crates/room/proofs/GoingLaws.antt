@@ -13,8 +13,8 @@ use Rattle.codec.proofs.RunLaws.{Walk, walk_start, walk_next, walk_cut, walk_unf
 use Rattle.layout.specs.Rows.{Fills}
 use Rattle.layout.specs.States.{highest}
 use Rattle.room.specs.declared.tally.Tally.{Tally}
-use Rattle.room.specs.Counts.{Counted, empty_tally, plus}
-use Rattle.room.specs.Walks.{Got, Missing, Apart}
+use Rattle.room.specs.Counts.{empty_tally, plus}
+use Rattle.room.specs.Walks.{Got, Missing}
 use Rattle.room.specs.Chains.{Chain, Linked, chain_of}
 
 max_assoc : (a b c : ℕ) → max a (max b c) ≡ max (max a b) c
@@ -81,16 +81,6 @@ module _ (C : Chain) where
 
       -- it is read
       module _ (l : Linked C) {u : Tally} (g : Got C.one s t.end u) where
-        apart : (prev : Option C.Of) → Before s p t.end prev → (p ≡ t.end → ⊥) → p + C.least ≤ t.end
-        apart none b d = absurd (d b)
-        apart (some a) b d = l.takes s p t.end a b
-
-        pub going_apart : Apart C.least p t.end × ((t.end + C.least ≤ u.end) × (u.end ≤ length s))
-        going_apart = (record { far = apart v.prev v.behind }, (l.takes s t.end u.end g.val g.fills, g.fills.inside))
-
-        pub going_join : (t.marks + t.bytes ≤ t.end) × (t.end + u.marks + u.bytes ≤ u.end)
-        going_join = (omega (arith, v.fits), omega (arith, g.fits))
-
         is_fine : (prev : Option C.Of) → Before s p t.end prev → fine C.one.form C.before prev g.val ≡ C.follows s p t.end u.end
         is_fine none b = sym (rw b (l.first s t.end u.end))
         is_fine (some a) b = sym (l.is s p t.end u.end a g.val b g.fills)
@@ -114,8 +104,3 @@ module _ (C : Chain) where
           fits = omega (arith, v.fits, g.fits);
           inside = g.fills.inside;
         }
-
--- what two tallies need to be joined
-pub can_join : {A B : Type 0} {K : Counted A} {L : Counted B} {s : List ℕ} {at : ℕ} {t u : Tally} → Got K s at t → Got L s t.end u
-    → (t.marks + t.bytes ≤ t.end) × (t.end + u.marks + u.bytes ≤ u.end)
-can_join g h = (omega (arith, g.fits), omega (arith, h.fits))

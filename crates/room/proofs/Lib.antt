@@ -1,7 +1,6 @@
 pub mod HeadLaws
 pub mod OpenLaws
 pub mod FirstLaws
-pub mod ChainLaws
 pub mod GoingLaws
 pub mod KeyLaws
 pub mod RangeLaws

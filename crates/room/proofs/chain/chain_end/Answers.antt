@@ -1,19 +1,10 @@
 -- Invariant: as many as were counted are read up to t.end, and the last of them stands at p (`Going`).
 use mathlib.Core.Path.{sym, ◌∙◌}
-use Rattle.room.proofs.GoingLaws.{going_start, going_apart, going_next, going_unfit, going_join, going_cut, going_end}
+use Rattle.room.proofs.GoingLaws.{going_start, going_next, going_unfit, going_cut, going_end}
 use Rattle.room.proofs.chain.chain_end.Goals as goal
 
 pub loop-init : goal.loop-init
 loop-init g c = rw c.start-t.ensures (going_start g.C.Chained.chain _ _ _ c.requires)
-
-pub one_end-requires : goal.one_end-requires
-one_end-requires g c = c.loop.invariant.inside
-
-pub may_follow-requires : goal.may_follow-requires
-may_follow-requires g c = going_apart _ c.loop.invariant c.loop-test.true g.met.C.Chained.linked c.in_ok-u.ensures
-
-pub joined-t-requires : goal.joined-t-requires
-joined-t-requires g c = going_join _ c.loop.invariant c.loop-test.true g.met.C.Chained.linked c.in_ok-u.ensures
 
 pub returns-in_err-u : goal.returns-in_err-u
 returns-in_err-u g c = rw c.from_residual.ensures (going_cut _ c.loop.invariant c.loop-test.true c.in_err-u.ensures)
