@@ -57,6 +57,10 @@ unfolding write_number
 bytes_written zero n = refl
 bytes_written (suc k) n = rw (bytes_written k (n / 256)) (bytes_snoc k n)
 
+pub number_bytes : (k n : ℕ) → (number k).write n ≡ bytes_high_first k n
+unfolding number
+number_bytes k n = bytes_written k n
+
 last_bytes : (k n m x : ℕ) → m ≡ k + n → drop k (bytes_high_first m x) ≡ bytes_high_first n x
 last_bytes zero n m x e = let f : m ≡ n = omega arith in rw f
 last_bytes (suc k) n zero x e = absurd (omega arith)

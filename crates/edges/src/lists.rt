@@ -32,13 +32,11 @@ pub fn put_keys(list: &mut [u8], first: usize, count: usize, size: usize) -> usi
     ensures { result ≤ length list.old }
 {
     let mut at = 0;
-    let mut n = 0;
-    while n < count {
+    for number in first..first + count {
         if list.len() - at < NUMBERED + size {
-            return at;
+            break;
         }
-        at = put_key(list, at, first + n, size);
-        n += 1;
+        at = put_key(list, at, number, size);
     }
     at
 }

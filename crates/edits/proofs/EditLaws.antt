@@ -4,8 +4,8 @@ use native.Mathlib.Nat.{add-zero}
 use mathlib.Core.Path.{◌≡◌, refl, sym, ap, ◌∙◌}
 use mathlib.Core.List.{List, [], ◌++◌, append_assoc, append-nil}
 use native.Mathlib.Omega.{arith}
-use lib.ListN.{length, drop, length-append, length-replicate, replicate, drop_of_length-le}
-use lib.Seq.{paste, paste-zero, take_all, take-length}
+use lib.ListN.{length, drop, length-append, length-replicate, replicate}
+use lib.Seq.{paste, paste-zero, take_all}
 use Rattle.machine.specs.Serve.{new_txn}
 use Rattle.codec.specs.Codec.{write_run, write_number}
 use Rattle.codec.specs.Formats.{number, raw, bind, only, via, run}
@@ -21,17 +21,6 @@ use Rattle.edits.specs.Edits.{Freshened}
 pub removed : (s s' : List ℕ) (used at n : ℕ) → at + n ≤ used → used ≤ length s → s' ≡ paste s at (drop (at + n) s) (used - (at + n)) → Spliced s used at n [] s'
 removed s s' used at n h k e =
     spliced s [] used at n h k (omega arith) s' s' (e ∙ ap (λ (x : ℕ). paste s x (drop (at + n) s) (used - (at + n))) (sym (add-zero at))) (paste-zero s' at [])
-
--- a copy over as many bytes as are there leaves the copied ones alone
-paste_whole : (d a : List ℕ) → length d ≡ length a → paste d 0 a (length a) ≡ a
-paste_whole d a e =
-    let x : drop (0 + length a) d ≡ [] = drop_of_length-le d {i = 0 + length a} (omega arith) in
-    rw (x, take-length a) (append-nil a)
-
-pub number_written : (z a : List ℕ) (n : ℕ) → length z ≡ number_size → a ≡ paste z 0 ((number number_size).write n) number_size → a ≡ (number number_size).write n
-number_written z a n h e =
-    let l : length ((number number_size).write n) ≡ number_size = length_number number_size n in
-    e ∙ ap (λ (k : ℕ). paste z 0 ((number number_size).write n) k) (sym l) ∙ paste_whole z ((number number_size).write n) (omega arith)
 
 length_two : (a b : List ℕ) (n m : ℕ) → length a ≡ n → length b ≡ m → length (a ++ b) ≡ n + m
 length_two a b n m ea eb = length-append a b ∙ rw (ea, eb)

@@ -1,8 +1,9 @@
 // Replays a script: reads records from standard input and writes a line of answer for each.
 #![tactic(auto)]
 
-ghost use Rattle.std.specs.Prelude.{◌≡◌, ◌≤◌, length, IfOk, OnErr};
-ghost use Rattle.replay.specs.Left.{LeftIs};
+ghost use Rattle.std.specs.Prelude.{◌<◌, IfOk, IfSome};
+ghost use Rattle.replay.specs.Held.{Held};
+ghost use Rattle.replay.specs.declared.TheConstants.{OFFSET_LIMIT};
 
 use manager::transaction_manager::new;
 use room::ceilings::SIZE;
@@ -20,96 +21,73 @@ const LINES: usize = 65536;
 // No input gets here; the loop's end is proved by it.
 const OFFSET_LIMIT: u64 = 0x8000000000000000;
 
-fn say_stop(out: &Stdout, lines: &mut [u8], offset: u64) -> io::Result<()>
-    requires { length lines.old ≡ 65536 }
-{
-    let n = put_stop(lines, 0, offset);
-    out.write_all(&lines[0..n])
+// A room, and the lines of its answers, which are not written yet.
+#[derive(Drop)]
+struct Player {
+    out: Stdout,
+    room: [u8; SIZE],
+    lines: [u8; LINES],
 }
 
-// What is left of a piece: from the record that is not whole yet, or from the one that ends the run.
-#[derive(Clone, Copy)]
-enum Left {
-    More(usize),
-    Stop(usize),
-}
+impl Player {
+    fn say_stop(&mut self, offset: u64) -> io::Result<()> {
+        let n = put_stop(&mut self.lines, 0, offset);
+        self.out.write_all(&self.lines[..n])
+    }
 
-// Feeds a piece, and writes the lines whenever they fill their place.
-fn play_piece(out: &Stdout, room: &mut [u8], piece: &[u8], lines: &mut [u8]) -> io::Result<Left>
-    requires { length lines.old ≡ 65536 }
-    ensures ok { IfOk result (λ left. LeftIs piece.now left) }
-    ensures err { OnErr result ((length room.new ≡ length room.old) × (length lines.new ≡ length lines.old)) }
-{
-    let mut from = 0;
-    loop {
-        let fed = feed(room, &piece[from..], lines);
-        let put = fed.put;
-        out.write_all(&lines[0..put])?;
-        from += fed.at;
-        let end = fed.end;
-        match end {
-            End::More => return Ok(Left::More(from)),
-            End::Stop => return Ok(Left::Stop(from)),
-            End::Full => {}
+    // Feeds a piece, which begins at an offset, and writes the lines whenever they fill their place. Tells where the record stands
+    // that is not whole yet, none where one ended the run.
+    fn play_piece(&mut self, piece: &[u8], offset: u64) -> io::Result<Option<usize>>
+        requires { offset < OFFSET_LIMIT }
+        ensures { IfOk result (λ left. IfSome left (Held piece.now)) }
+    {
+        let mut from = 0;
+        loop {
+            let fed = feed(&mut self.room, &piece[from..], &mut self.lines);
+            self.out.write_all(&self.lines[..fed.put])?;
+            from += fed.at;
+            match fed.end {
+                End::More => return Ok(Some(from)),
+                End::Stop => {
+                    self.say_stop(offset + from as u64)?;
+                    return Ok(None);
+                }
+                End::Full => {}
+            }
         }
     }
-}
 
-// Reads behind the bytes that are held, and tells how many there are now.
-fn read_on(input: &mut Stdin, buffer: &mut [u8], have: usize) -> io::Result<usize>
-    requires { have ≤ length buffer.old }
-    ensures ok { IfOk result (λ n. (have ≤ n) × (n ≤ length buffer.old)) }
-    ensures err { OnErr result (length buffer.new ≡ length buffer.old) }
-{
-    let got = input.read(&mut buffer[have..])?;
-    Ok(have + got)
-}
-
-// Plays the input in the pieces that it comes in; what is not whole yet is held at the buffer's front.
-fn play(
-    input: &mut Stdin,
-    out: &Stdout,
-    room: &mut [u8],
-    buffer: &mut [u8],
-    lines: &mut [u8],
-) -> io::Result<()>
-    requires { (length buffer.old ≡ 131072) × (length lines.old ≡ 65536) }
-{
-    let mut held = 0;
-    let mut offset = 0;
-    while offset < OFFSET_LIMIT {
-        let have = read_on(input, buffer, held)?;
-        if have <= held {
-            if 0 < held {
-                say_stop(out, lines, offset)?;
-            }
-            return Ok(());
-        }
-        match play_piece(out, room, &buffer[0..have], lines)? {
-            Left::More(at) => {
-                held = have - at;
-                moves::move_down(buffer, at, 0, held);
-                offset += at as u64;
-            }
-            Left::Stop(at) => {
-                say_stop(out, lines, offset + at as u64)?;
+    // Plays the input in the pieces that it comes in; what is not whole yet is held at the buffer's front.
+    fn play(&mut self, input: &mut Stdin) -> io::Result<()> {
+        let mut buffer = [0u8; BUFFER];
+        let mut held = 0;
+        let mut offset = 0;
+        while offset < OFFSET_LIMIT {
+            let got = input.read(&mut buffer[held..])?;
+            if got == 0 {
+                if 0 < held {
+                    self.say_stop(offset)?;
+                }
                 return Ok(());
             }
+            let have = held + got;
+            let Some(at) = self.play_piece(&buffer[..have], offset)? else {
+                return Ok(());
+            };
+            buffer.copy_within(at..have, 0);
+            held = have - at;
+            offset += at as u64;
         }
+        Ok(())
     }
-    Ok(())
 }
 
 fn main(rt: HostRuntime) -> io::Result<()> {
-    let mut room = [0u8; SIZE];
-    let mut buffer = [0u8; BUFFER];
-    let mut lines = [0u8; LINES];
-    new(&mut room, 0);
-    play(
-        &mut rt.stdin(),
-        &rt.stdout(),
-        &mut room,
-        &mut buffer,
-        &mut lines,
-    )
+    let mut player = Player {
+        out: rt.stdout(),
+        room: [0u8; SIZE],
+        lines: [0u8; LINES],
+    };
+    let _ = new(&mut player.room, 0);
+    player.play(&mut rt.stdin())
 }

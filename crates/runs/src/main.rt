@@ -1,16 +1,17 @@
 // Replays the fixed sample of runs: reads them from standard input and writes a line of answer for each record.
 #![tactic(auto)]
 
-ghost use Rattle.std.specs.Prelude.{◌≡◌, ◌<◌, ◌≤◌, length, IfOk, OnErr};
+ghost use Rattle.std.specs.Prelude.{◌<◌, length, IfOk, IfSome};
 
+use answers::Answer;
 use codec::numbers::read_eight;
+use input::read_full;
 use manager::transaction_manager::new;
 use room::ceilings::SIZE;
-use script::lines::{LINE_LIMIT, put_line};
-use script::records::{Next, next_record};
+use script::records::next_record;
 use script::served::serve_record;
 use std::io;
-use std::io::{Read, Stdin, Stdout};
+use std::io::Stdout;
 
 const INPUT_LIMIT: usize = 262144;
 
@@ -23,79 +24,64 @@ const RUN: u8 = 0;
 // The tag, and the number that the run's room is made fresh at.
 const RUN_SIZE: usize = 9;
 
-fn say(out: &Stdout, status: u8, value: u64) -> io::Result<()> {
-    let mut line = [0u8; LINE_LIMIT];
-    let n = put_line(&mut line, 0, status, value);
-    out.write_all(&line[0..n])
-}
-
-fn say_number(out: &Stdout, text: &[u8], number: u64) -> io::Result<()> {
-    out.write_all(text)?;
-    println!(out; "{number}")
-}
-
-// The line that says where the runs do not read.
+// Where the runs do not read.
 fn say_bad(out: &Stdout, at: usize) -> io::Result<()> {
-    say_number(out, b"bad ", at as u64)
+    println!(out; "bad {at}")
 }
 
-fn begin_run(out: &Stdout, room: &mut [u8; SIZE], runs: &[u8], at: usize) -> io::Result<usize>
+fn begin_run(
+    out: &Stdout,
+    room: &mut [u8; SIZE],
+    runs: &[u8],
+    at: usize,
+) -> io::Result<Option<usize>>
     requires { at < length runs.now }
+    ensures { IfOk result (λ next. IfSome next (λ to. at < to)) }
 {
     if runs.len() - at < RUN_SIZE {
-        return Ok(at);
+        return Ok(None);
     }
-    let last = read_eight(runs, at + 1);
-    let answer = new(room, last);
-    say_number(out, b"run ", answer.value)?;
-    Ok(at + RUN_SIZE)
+    let answer = Answer::from(new(room, read_eight(runs, at + 1)));
+    println!(out; "run {}", answer.value)?;
+    Ok(Some(at + RUN_SIZE))
 }
 
-// Serves what stands at a place, and tells where the next stands; the same place where this one does not read.
-fn serve_at(out: &Stdout, room: &mut [u8; SIZE], runs: &[u8], at: usize) -> io::Result<usize>
+// Serves what stands at a place, and tells where the next stands; none where this one does not read.
+fn serve_at(
+    out: &Stdout,
+    room: &mut [u8; SIZE],
+    runs: &[u8],
+    at: usize,
+) -> io::Result<Option<usize>>
     requires { at < length runs.now }
+    ensures { IfOk result (λ next. IfSome next (λ to. at < to)) }
 {
     if runs[at] == RUN {
         return begin_run(out, room, runs, at);
     }
-    match next_record(runs, at) {
-        Next::Whole { tag, from, to } => {
-            let answer = serve_record(room, tag, &runs[from..to]);
-            say(out, answer.status, answer.value)?;
-            Ok(to)
-        }
-        Next::More => Ok(at),
-        Next::Stop => Ok(at),
-    }
+    let Ok(Some(record)) = next_record(runs, at) else {
+        return Ok(None);
+    };
+    let payload = record.payload;
+    let answer = Answer::from(serve_record(
+        room,
+        record.tag,
+        &runs[payload.from..payload.to],
+    ));
+    println!(out; "{} {}", answer.status, answer.value)?;
+    Ok(Some(payload.to))
 }
 
 // What does not read ends the replay with a line of its own, so that a damaged sample can't pass.
 fn replay(out: &Stdout, room: &mut [u8; SIZE], runs: &[u8]) -> io::Result<()> {
     let mut at = 0;
     while at < runs.len() {
-        let next = serve_at(out, room, runs, at)?;
-        if next <= at {
+        let Some(next) = serve_at(out, room, runs, at)? else {
             return say_bad(out, at);
-        }
+        };
         at = next;
     }
     Ok(())
-}
-
-// Reads until the bytes are full or the input ends, and tells how many it put at their front.
-fn read_full(input: &mut Stdin, bytes: &mut [u8]) -> io::Result<usize>
-    ensures ok { IfOk result (λ n. n ≤ length bytes.new) }
-    ensures err { OnErr result (length bytes.new ≡ length bytes.old) }
-{
-    let mut done = 0;
-    while done < bytes.len() {
-        let n = input.read(&mut bytes[done..])?;
-        if n == 0 {
-            return Ok(done);
-        }
-        done += n;
-    }
-    Ok(done)
 }
 
 fn main(rt: HostRuntime) -> io::Result<()> {

@@ -1,135 +1,129 @@
-// The library's answer to each op, as a line.
-use crate::text::{put, put_bound, put_bounds, put_key, put_order, put_status, put_test};
+// The library's answer to each query, as a line.
+use crate::field::{Bound, Range};
+use crate::query::Query;
+use crate::text::Hex;
 use bounds::comparable_range::ComparableRange;
-use bounds::sides::Combined;
+use bounds::sides::Sides;
 use fields::KEY;
-use keys::KEY_LIMIT;
 use ranges::bytes_range::{BytesRange, MadeRange};
-use ranges::made::{Made, MadeBound};
+use ranges::made::{MadeBound, RangeError};
 use std::io;
 use std::io::Stdout;
 
-// The four keys and the kinds of r and s are those of the query's fields, in their order.
-pub fn answer<'a>(
-    out: &Stdout,
-    op: u8,
-    r: ComparableRange,
-    s: ComparableRange,
-    a: &'a [u8],
-    b: &'a [u8],
-    c: &'a [u8],
-    d: &'a [u8],
-) -> io::Result<()> {
-    let first = r.start;
-    let second = r.end;
-    let third = s.start;
-    let after_prefix = ComparableRange::new(second, third);
-    match op {
-        0x01 => put_order(out, keys::compare(a, b)),
-        0x02 => put_test(out, keys::equal(a, b)),
-        0x03 => put_test(out, keys::starts_with(a, b)),
-        0x04 => put_order(out, first.compare_start(a, second, b)),
-        0x05 => put_order(out, first.compare_end(a, second, b)),
-        0x06 => put_order(out, r.compare(a, b, s, c, d)),
-        0x07 => put_test(out, r.non_empty(a, b)),
-        0x08 => put_test(out, r.contains(a, b, c)),
-        0x09 => put_test(out, r.are_adjacent(b, s, c)),
-        0x0a => put_combined(out, r.intersect(a, b, s, c, d), r, s, a, b, c, d),
-        0x0b => put_combined(out, r.union(a, b, s, c, d), r, s, a, b, c, d),
-        0x0c => put_point(out, r, a, b),
-        0x0d => put_made(out, BytesRange::increment_prefix(a)),
-        0x0e => put_new(out, r, a, b),
-        0x0f => put_made_range(out, BytesRange::from_prefix(a)),
-        _ => put_made_range(
+pub fn answer(out: &Stdout, query: Query<'_>) -> io::Result<()> {
+    match query {
+        Query::Compare(a, b) => put_order(out, keys::compare(a, b)),
+        Query::Equal(a, b) => put_test(out, keys::equal(a, b)),
+        Query::StartsWith(a, b) => put_test(out, keys::starts_with(a, b)),
+        Query::CompareStart(a, b) => put_order(out, a.kind.compare_start(a.key, b.kind, b.key)),
+        Query::CompareEnd(a, b) => put_order(out, a.kind.compare_end(a.key, b.kind, b.key)),
+        Query::CompareRange(r, s) => put_order(
             out,
-            BytesRange::from_prefix_and_subrange(a, after_prefix, b, c),
+            r.kinds()
+                .compare(r.start.key, r.end.key, s.kinds(), s.start.key, s.end.key),
+        ),
+        Query::NonEmpty(r) => put_test(out, r.kinds().non_empty(r.start.key, r.end.key)),
+        Query::Contains(r, key) => put_test(out, r.kinds().contains(r.start.key, r.end.key, key)),
+        Query::AreAdjacent(r, s) => {
+            put_test(
+                out,
+                r.kinds().are_adjacent(r.end.key, s.kinds(), s.start.key),
+            )
+        }
+        Query::Intersect(r, s) => put_combined(
+            out,
+            r.kinds()
+                .intersect(r.start.key, r.end.key, s.kinds(), s.start.key, s.end.key),
+            r,
+            s,
+        ),
+        Query::Union(r, s) => put_combined(
+            out,
+            r.kinds()
+                .union(r.start.key, r.end.key, s.kinds(), s.start.key, s.end.key),
+            r,
+            s,
+        ),
+        Query::AsPoint(r) => put_point(out, r),
+        Query::Increment(prefix) => put_made(out, BytesRange::increment_prefix(prefix)),
+        Query::New(r) => put_new(out, r),
+        Query::FromPrefix(prefix) => put_made_range(out, BytesRange::from_prefix(prefix)),
+        Query::FromPrefixAndSubrange(prefix, r) => put_made_range(
+            out,
+            BytesRange::from_prefix_and_subrange(prefix, r.kinds(), r.start.key, r.end.key),
         ),
     }
 }
 
+fn put_order(out: &Stdout, order: i8) -> io::Result<()> {
+    println!(out; "0 {order}")
+}
+
+fn put_test(out: &Stdout, holds: bool) -> io::Result<()> {
+    println!(out; "0 {}", u8::from(holds))
+}
+
 fn put_combined<'a>(
     out: &Stdout,
-    combined: Combined,
-    r: ComparableRange,
-    s: ComparableRange,
-    a: &'a [u8],
-    b: &'a [u8],
-    c: &'a [u8],
-    d: &'a [u8],
+    sides: Option<Sides>,
+    r: Range<'a>,
+    s: Range<'a>,
 ) -> io::Result<()> {
-    let k = r.start;
-    let l = r.end;
-    let m = s.start;
-    let n = s.end;
-    match combined {
-        Combined::Of { start, end } => {
-            put(out, b"0 ")?;
-            put_bounds(
-                out,
-                start.kind(k, m),
-                start.key(a, c),
-                end.kind(l, n),
-                end.key(b, d),
+    match sides {
+        Some(Sides { start, end }) => {
+            println!(out;
+                "0 {} {}",
+                start.pick(r.start, s.start),
+                end.pick(r.end, s.end)
             )
         }
-        Combined::Nothing => put(out, b"0 -\n"),
+        None => println!(out; "0 -"),
     }
 }
 
-fn put_point(out: &Stdout, r: ComparableRange, a: &[u8], b: &[u8]) -> io::Result<()> {
-    let range = BytesRange { inner: r };
-    if range.as_point(a, b) {
-        put(out, b"0 ")?;
-        put_key(out, KEY, a)?;
-        put(out, b"\n")
+fn put_point(out: &Stdout, r: Range<'_>) -> io::Result<()> {
+    let range = BytesRange { inner: r.kinds() };
+    if range.as_point(r.start.key, r.end.key) {
+        println!(out; "0 {KEY:02x}:{}", Hex(r.start.key))
     } else {
-        put(out, b"0 -\n")
+        println!(out; "0 -")
     }
 }
 
-fn put_new(out: &Stdout, r: ComparableRange, a: &[u8], b: &[u8]) -> io::Result<()> {
-    let start = r.start;
-    let end = r.end;
-    if put_status(out, BytesRange::new(start, a, end, b))? {
-        put_bounds(out, start, a, end, b)?;
+// A refusal is the whole line.
+fn put_refusal(out: &Stdout, error: RangeError) -> io::Result<()> {
+    match error {
+        RangeError::LongKey => println!(out; "4 -"),
+        RangeError::EmptyRange => println!(out; "5 -"),
     }
-    Ok(())
 }
 
-fn put_made(out: &Stdout, made: Made) -> io::Result<()> {
-    let bound = made.bound;
-    let making = made.making;
-    if put_status(out, making)? {
-        put_made_bound(out, bound)?;
-        put(out, b"\n")?;
+fn put_new(out: &Stdout, r: Range<'_>) -> io::Result<()> {
+    match BytesRange::new(r.start.kind, r.start.key, r.end.kind, r.end.key) {
+        Ok(_) => println!(out; "0 {r}"),
+        Err(error) => put_refusal(out, error),
     }
-    Ok(())
 }
 
-fn put_made_range(out: &Stdout, made: MadeRange) -> io::Result<()> {
-    let start = made.start;
-    let end = made.end;
-    let making = made.making;
-    if put_status(out, making)? {
-        put_made_bound(out, start)?;
-        put(out, b" ")?;
-        put_made_bound(out, end)?;
-        put(out, b"\n")?;
+fn put_made(out: &Stdout, made: Result<MadeBound, RangeError>) -> io::Result<()> {
+    match made {
+        Ok(bound) => println!(out; "0 {}", made_bound(&bound)),
+        Err(error) => put_refusal(out, error),
     }
-    Ok(())
 }
 
-fn put_made_bound(out: &Stdout, bound: MadeBound) -> io::Result<()> {
-    let kind = bound.kind;
-    let bytes = bound.bytes;
-    put_bound(out, kind, front(&bytes, bound.len))
+fn put_made_range(out: &Stdout, made: Result<MadeRange, RangeError>) -> io::Result<()> {
+    match made {
+        Ok(range) => println!(out; "0 {} {}", made_bound(&range.start), made_bound(&range.end)),
+        Err(error) => put_refusal(out, error),
+    }
 }
 
-// The first n bytes, or all if there are no more.
-fn front(bytes: &[u8; KEY_LIMIT], n: usize) -> &[u8] {
-    let all: &[u8] = bytes;
-    if n < all.len() {
-        return &all[0..n];
+// A made bound with the first len of its bytes, or all if there are no more.
+fn made_bound(made: &MadeBound) -> Bound<'_> {
+    let bytes: &[u8] = &made.bytes;
+    Bound {
+        kind: made.kind,
+        key: bytes.get(..made.len).unwrap_or(bytes),
     }
-    all
 }

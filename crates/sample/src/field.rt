@@ -1,61 +1,74 @@
-// Fields: a tag, a length of two bytes, the payload.
-ghost use Rattle.sample.specs.Fields.{Within};
+// The fields of a query: keys, bounds and ranges, read one after the other.
+ghost use Rattle.std.specs.Prelude.{◌≤◌};
 
-use fields::{EXCLUDED, FieldAt, INCLUDED, KEY, UNBOUNDED};
+use bounds::comparable_range::ComparableRange;
+use fields::{KEY, Span};
 use kinds::kind::Kind;
 
-// No field has this tag: it stands for one that is cut or not there.
-const CUT: u8 = 0;
-
-// A field's tag, and where in the queries its payload begins and ends.
+// A bound with its key; beside an unbounded kind stands no byte.
 #[derive(Clone, Copy)]
-pub struct Field {
-    pub tag: u8,
-    pub from: usize,
-    pub to: usize,
+pub struct Bound<'a> {
+    pub kind: Kind,
+    pub key: &'a [u8],
 }
 
-impl Field {
-    pub fn is_key(self) -> bool {
-        self.tag == KEY
+#[derive(Clone, Copy)]
+pub struct Range<'a> {
+    pub start: Bound<'a>,
+    pub end: Bound<'a>,
+}
+
+impl Range<'_> {
+    pub fn kinds(self) -> ComparableRange {
+        ComparableRange::new(self.start.kind, self.end.kind)
+    }
+}
+
+// Where the next field begins.
+#[derive(Drop)]
+pub struct Fields<'a> {
+    pub queries: &'a [u8],
+    pub at: usize,
+}
+
+impl<'a> Fields<'a> {
+    // The next field's tag and payload, none where the queries end or a field is cut.
+    fn field(&mut self) -> Option<(u8, &'a [u8])>
+        ensures { self.old.at ≤ self.new.at }
+    {
+        let Ok(Some(field)) = fields::field_at(self.queries, self.at) else {
+            return None;
+        };
+        let Span { from, to } = field.payload;
+        self.at = to;
+        Some((field.tag, &self.queries[from..to]))
     }
 
-    pub fn is_bound(self) -> bool {
-        let tag = self.tag;
-        if tag == UNBOUNDED {
-            return self.from == self.to;
+    pub fn key(&mut self) -> Option<&'a [u8]>
+        ensures { self.old.at ≤ self.new.at }
+    {
+        match self.field()? {
+            (KEY, key) => Some(key),
+            _ => None,
         }
-        tag == INCLUDED || tag == EXCLUDED
     }
 
-    pub fn kind(self) -> Kind {
-        let tag = self.tag;
-        match tag {
-            INCLUDED => Kind::Included,
-            EXCLUDED => Kind::Excluded,
-            _ => Kind::UNBOUNDED,
+    pub fn bound(&mut self) -> Option<Bound<'a>>
+        ensures { self.old.at ≤ self.new.at }
+    {
+        let (tag, key) = self.field()?;
+        let kind = Kind::try_from(tag).ok()?;
+        if kind.bounded() || key.is_empty() {
+            return Some(Bound { kind, key });
         }
+        None
     }
-}
 
-pub fn field_at(queries: &[u8], at: usize) -> Field
-    ensures { Within result queries.now }
-{
-    let cut = Field {
-        tag: CUT,
-        from: 0,
-        to: 0,
-    };
-    let FieldAt::At { tag, from, to } = fields::field_at(queries, at) else {
-        return cut;
-    };
-    Field { tag, from, to }
-}
-
-pub fn payload(queries: &[u8], field: Field) -> &[u8]
-    requires { Within field queries.now }
-{
-    let from = field.from;
-    let to = field.to;
-    &queries[from..to]
+    pub fn range(&mut self) -> Option<Range<'a>>
+        ensures { self.old.at ≤ self.new.at }
+    {
+        let start = self.bound()?;
+        let end = self.bound()?;
+        Some(Range { start, end })
+    }
 }

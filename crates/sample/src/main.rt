@@ -1,12 +1,11 @@
 // Replays the fixed sample: reads queries from standard input and writes a line of answer for each.
 #![tactic(auto)]
 
-ghost use Rattle.std.specs.Prelude.{◌≡◌, ◌≤◌, length, IfOk, OnErr};
-
-use query::answer_at;
+use answer::answer;
+use input::read_full;
+use query::query_at;
 use std::io;
-use std::io::{Read, Stdin, Stdout};
-use text::put_bad;
+use std::io::Stdout;
 
 mod answer;
 mod field;
@@ -22,29 +21,18 @@ const QUERY_ROOM: usize = QUERY_LIMIT + 1;
 fn replay(out: &Stdout, queries: &[u8]) -> io::Result<()> {
     let mut at = 0;
     while at < queries.len() {
-        let next = answer_at(out, queries, at)?;
-        if next <= at {
+        let Some((query, next)) = query_at(queries, at) else {
             return put_bad(out, at);
-        }
+        };
+        answer(out, query)?;
         at = next;
     }
     Ok(())
 }
 
-// Reads until the bytes are full or the input ends, and tells how many it put at their front.
-fn read_full(input: &mut Stdin, bytes: &mut [u8]) -> io::Result<usize>
-    ensures ok { IfOk result (λ n. n ≤ length bytes.new) }
-    ensures err { OnErr result (length bytes.new ≡ length bytes.old) }
-{
-    let mut done = 0;
-    while done < bytes.len() {
-        let n = input.read(&mut bytes[done..])?;
-        if n == 0 {
-            return Ok(done);
-        }
-        done += n;
-    }
-    Ok(done)
+// The line that says where the queries do not read.
+fn put_bad(out: &Stdout, at: usize) -> io::Result<()> {
+    println!(out; "bad {at}")
 }
 
 fn main(rt: HostRuntime) -> io::Result<()> {

@@ -1,91 +1,31 @@
-// Lines of answers, written to standard output in parts.
-use fields::{EXCLUDED, INCLUDED, UNBOUNDED};
-use kinds::kind::Kind;
-use ranges::made::Making;
-use std::io;
-use std::io::Stdout;
+// Answers as text: a bound is its tag, and behind a colon its key, in hexadecimal.
+use crate::field::{Bound, Range};
+use std::fmt;
 
-pub fn put(out: &Stdout, text: &[u8]) -> io::Result<()> {
-    out.write_all(text)
-}
+#[derive(Clone, Copy)]
+pub struct Hex<'a>(pub &'a [u8]);
 
-pub fn put_order(out: &Stdout, order: i8) -> io::Result<()> {
-    if order < 0 {
-        put(out, b"0 -1\n")
-    } else if order == 0 {
-        put(out, b"0 0\n")
-    } else {
-        put(out, b"0 1\n")
-    }
-}
-
-pub fn put_test(out: &Stdout, holds: bool) -> io::Result<()> {
-    if holds {
-        put(out, b"0 1\n")
-    } else {
-        put(out, b"0 0\n")
-    }
-}
-
-// Tells whether what was made is to follow: a refusal is the whole line.
-pub fn put_status(out: &Stdout, making: Making) -> io::Result<bool> {
-    match making {
-        Making::Done => {
-            put(out, b"0 ")?;
-            Ok(true)
+impl fmt::Display for Hex<'_> {
+    fn fmt<W: fmt::Write>(&self, f: &mut fmt::Formatter<W>) -> fmt::Result {
+        for byte in self.0 {
+            write!(f, "{byte:02x}")?;
         }
-        Making::LongKey => {
-            put(out, b"4 -\n")?;
-            Ok(false)
+        Ok(())
+    }
+}
+
+impl fmt::Display for Bound<'_> {
+    fn fmt<W: fmt::Write>(&self, f: &mut fmt::Formatter<W>) -> fmt::Result {
+        write!(f, "{:02x}", u8::from(self.kind))?;
+        if self.kind.bounded() {
+            write!(f, ":{}", Hex(self.key))?;
         }
-        Making::EmptyRange => {
-            put(out, b"5 -\n")?;
-            Ok(false)
-        }
+        Ok(())
     }
 }
 
-pub fn put_bounds(
-    out: &Stdout,
-    start: Kind,
-    start_key: &[u8],
-    end: Kind,
-    end_key: &[u8],
-) -> io::Result<()> {
-    put_bound(out, start, start_key)?;
-    put(out, b" ")?;
-    put_bound(out, end, end_key)?;
-    put(out, b"\n")
-}
-
-pub fn put_bound(out: &Stdout, kind: Kind, key: &[u8]) -> io::Result<()> {
-    match kind {
-        Kind::Unbounded => put_byte(out, UNBOUNDED),
-        Kind::Included => put_key(out, INCLUDED, key),
-        Kind::Excluded => put_key(out, EXCLUDED, key),
+impl fmt::Display for Range<'_> {
+    fn fmt<W: fmt::Write>(&self, f: &mut fmt::Formatter<W>) -> fmt::Result {
+        write!(f, "{} {}", self.start, self.end)
     }
-}
-
-pub fn put_key(out: &Stdout, tag: u8, key: &[u8]) -> io::Result<()> {
-    put_byte(out, tag)?;
-    put(out, b":")?;
-    put_bytes(out, key)
-}
-
-fn put_bytes(out: &Stdout, bytes: &[u8]) -> io::Result<()> {
-    let mut i = 0;
-    while i < bytes.len() {
-        put_byte(out, bytes[i])?;
-        i += 1;
-    }
-    Ok(())
-}
-
-fn put_byte(out: &Stdout, byte: u8) -> io::Result<()> {
-    print!(out; "{byte:02x}")
-}
-
-// The line that says where the queries do not read.
-pub fn put_bad(out: &Stdout, at: usize) -> io::Result<()> {
-    println!(out; "bad {at}")
 }

@@ -1,4 +1,4 @@
--- Each turn goes on, or stops where a query does not read.
+-- Each turn goes on to the next query.
 use Rattle.std.proofs.Common.{length, ◌-◌}
 use Rattle.sample.proofs.replay.Given as goal
 

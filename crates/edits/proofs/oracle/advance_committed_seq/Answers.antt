@@ -3,4 +3,4 @@ use Rattle.edits.proofs.OracleLaws.{advances}
 use Rattle.edits.proofs.oracle.advance_committed_seq.Goals as goal
 
 pub returns : goal.returns
-returns c = advances c.last_committed_seq.ensures c.larger-last.ensures c.write_eight.ensures
+returns c = advances c.last_committed_seq.ensures c.max-last.ensures c.write_eight.ensures
