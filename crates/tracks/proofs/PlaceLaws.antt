@@ -1,5 +1,5 @@
 -- The search for a key's place in a set: the key belongs behind all keys that have been passed.
-use Prim.Native.Nat.{ℕ, ◌+◌, ◌-◌, ◌≤◌, ◌<◌}
+use Prim.Native.Nat.{ℕ, ◌+◌, ◌≤◌, ◌<◌}
 use mathlib.Core.Path.{◌≡◌, refl, sym, ap, ◌∙◌}
 use mathlib.Core.List.{List, [], ◌∷◌, ◌++◌, append_assoc}
 use mathlib.Core.Ordering.{Ordering, lt, eq, gt}
@@ -15,19 +15,16 @@ use Rattle.layout.specs.Offsets.{length_size, any_length}
 use Rattle.layout.specs.Rows.{Rows, Here, Ends}
 use Rattle.layout.proofs.OpenLaws.{open_key}
 use Rattle.places.specs.declared.cursor.Cursor.{Cursor}
-use Rattle.places.proofs.SplitLaws.{Split, split_one, Search, Turn, turn, turn_here, search_start, search_over, search_next}
+use Rattle.places.proofs.SplitLaws.{to_go, one_less, Split, split_one, Search, Turn, turn, turn_here, search_start, search_over, search_next}
 use Rattle.tracks.specs.Sets.{key_codec, KeyPlaceIs}
 use Rattle.tracks.proofs.KeyLaws.{lent}
 
 abbrev pub Behind : Bytes → List Bytes → List Bytes → Type 0
 Behind key less more = insert key (less ++ more) ≡ less ++ insert key more
 
--- turn i of n, at a place
-abbrev pub turn_at : ℕ → ℕ → ℕ → Cursor
-turn_at n at i = record { at = at; left = n - i }
-
+-- at turn i of n, at a place
 pub record KeySeek (d : Bytes) (n : ℕ) (key : Bytes) (at i : ℕ) : Type 0 where
-  pub now : Search key_codec (Behind key) d 0 n (turn_at n at i)
+  now : Search key_codec (Behind key) d 0 n (to_go n i at)
 
 pub key_seek_start : {d : Bytes} {n : ℕ} (key : Bytes) → Rows key_codec d 0 n → KeySeek d n key 0 0
 key_seek_start key x = record { now = search_start key_codec (Behind key) (λ ks. refl) x (refl, omega arith) }
@@ -53,7 +50,7 @@ module _ {d : Bytes} {n : ℕ} (key : Bytes) where
   key_seek_end x h = let t = search_over key_codec (Behind key) x.now (omega (arith, h)) in found_before t.walk t.holds refl
 
   module _ {at i : ℕ} (x : KeySeek d n key at i) (h : i < n) where
-    t : Turn key_codec (Behind key) d 0 n (turn_at n at i)
+    t : Turn key_codec (Behind key) d 0 n (to_go n i at)
     t = turn key_codec (Behind key) x.now (omega arith)
 
     pub key_here : Here key_codec d at
@@ -96,6 +93,4 @@ module _ {d : Bytes} {n : ℕ} (key : Bytes) where
           ∙ sym (append_assoc t.front (t.one ∷ []) (insert key t.back))
 
       pub key_seek_next : order key (lent d (at + length_size) to) ≡ gt → KeySeek d n key to (i + 1)
-      key_seek_next q =
-          let e : n - (i + 1) ≡ n - i - 1 = omega arith in
-          record { now = search_next key_codec (Behind key) (Behind key) t y (ap (λ (k : ℕ). record { at = to; left = k }) e) (still_behind q) }
+      key_seek_next q = record { now = search_next key_codec (Behind key) (Behind key) t y (one_less n i to) (still_behind q) }
