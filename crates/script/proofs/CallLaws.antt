@@ -1,5 +1,9 @@
 -- Which call a record is, from what the code sees of its payload.
-use Prim.Native.Nat.{ℕ, ◌+◌, ◌-◌, ◌≤◌, ◌<◌}
+use Prim.Native.Nat.{ℕ, ◌+◌, ◌-◌, ◌≤◌, ◌<◌, min}
+use mathlib.Core.Bool.{true, false}
+use mathlib.Core.Logic.{◌⊎◌, inl, inr}
+use Rattle.std.proofs.lemmas.Bool.{cases_order}
+use Rattle.script.specs.Stream.{known}
 use mathlib.Core.Path.{◌≡◌, refl, sym, ap, ap₂, ◌∙◌}
 use mathlib.Core.List.{List, [], ◌∷◌}
 use mathlib.Core.Option.{some}
@@ -26,28 +30,29 @@ refused_two L s = refl
 
 -- ---- the id
 
-module _ (p : List ℕ) where
-  pub id_missing : length p < id_size → IdEnds p (length p)
-  id_missing h =
-      record {
-        inside = omega arith;
-        id = take_all id_size p (omega arith) ∙ sym (take_all (length p) p (omega arith));
-        rest = drop_of_length-le p {i = id_size} (omega arith) ∙ sym (drop_of_length-le p {i = length p} (omega arith));
-      }
+pub id_ends : (p : List ℕ) {r : ℕ} → r ≡ min (length p) id_size → IdEnds p r
+id_ends p {r} e = go (cases_order (length p) id_size)
+  where
+    few : length p ≤ id_size → IdEnds p r
+    few h =
+        record {
+          inside = omega (arith, e);
+          id = take_all id_size p (omega arith) ∙ sym (take_all r p (omega (arith, e)));
+          rest = drop_of_length-le p {i = id_size} (omega arith) ∙ sym (drop_of_length-le p {i = r} (omega (arith, e)));
+        }
 
-  pub id_there : id_size ≤ length p → IdEnds p id_size
-  id_there h = record { inside = h; id = refl; rest = refl }
+    go : (length p ≡ id_size) ⊎ ((length p < id_size) ⊎ (id_size < length p)) → IdEnds p r
+    go (inl h) = few (omega (arith, h))
+    go (inr (inl h)) = few (omega (arith, h))
+    go (inr (inr h)) = let k : r ≡ id_size = omega (arith, e, h) in rw k (record { inside = omega (arith, h); id = refl; rest = refl })
 
 -- an answer for one call is an answer for the same call
 pub served_as : {s s' : List ℕ} {a b : Call} {n v : ℕ} → a ≡ b → Served s a n v s' → Served s b n v s'
 served_as e w = rw (← e) w
 
 -- a payload cut where its id ends
-pub split_as : (f : List ℕ → List ℕ → Op) {p : List ℕ} {r : ℕ} → IdEnds p r
-    → on (f (take (r - 0) p) (take (length p - r) (drop r p))) ≡ on (f (take id_size p) (drop id_size p))
-split_as f {p} {r} w =
-    let e : r - 0 ≡ r = omega arith in
-    ap₂ (λ (x y : List ℕ). on (f x y)) (ap (λ (n : ℕ). take n p) e ∙ sym w.id) (part_to_end p r ∙ sym w.rest)
+pub split_as : (f : List ℕ → List ℕ → Op) {p x y : List ℕ} {r : ℕ} → IdEnds p r → x ≡ take r p → y ≡ drop r p → on (f x y) ≡ on (f (take id_size p) (drop id_size p))
+split_as f w ex ey = ap₂ (λ (x y : List ℕ). on (f x y)) (ex ∙ sym w.id) (ey ∙ sym w.rest)
 
 -- ---- the sequence
 
@@ -102,16 +107,19 @@ minimum_none (b ∷ bs) h = refl
 pub tag_as : (p : List ℕ) {t k : ℕ} → t ≡ k → called k p ≡ called t p
 tag_as p {t} {k} e = ap (λ (x : ℕ). called x p) (sym e)
 
-pub tag_none : (t : ℕ) (p : List ℕ) → (((((((((Unit {0} × (t ≡ 1 → ⊥)) × (t ≡ 2 → ⊥)) × (t ≡ 3 → ⊥)) × (t ≡ 4 → ⊥)) × (t ≡ 5 → ⊥)) × (t ≡ 6 → ⊥)) × (t ≡ 7 → ⊥)) × (t ≡ 8 → ⊥)) × (t ≡ 9 → ⊥)) → refused_call ≡ called t p
+pub tag_none : (t : ℕ) (p : List ℕ) → known t ≡ false → refused_call ≡ called t p
 tag_none t p h =
     rw (
-      ne_eqb t 1 h.0.0.0.0.0.0.0.0.1,
-      ne_eqb t 2 h.0.0.0.0.0.0.0.1,
-      ne_eqb t 3 h.0.0.0.0.0.0.1,
-      ne_eqb t 4 h.0.0.0.0.0.1,
-      ne_eqb t 5 h.0.0.0.0.1,
-      ne_eqb t 6 h.0.0.0.1,
-      ne_eqb t 7 h.0.0.1,
-      ne_eqb t 8 h.0.1,
-      ne_eqb t 9 h.1,
+      ne_eqb t 1 (other 1 refl),
+      ne_eqb t 2 (other 2 refl),
+      ne_eqb t 3 (other 3 refl),
+      ne_eqb t 4 (other 4 refl),
+      ne_eqb t 5 (other 5 refl),
+      ne_eqb t 6 (other 6 refl),
+      ne_eqb t 7 (other 7 refl),
+      ne_eqb t 8 (other 8 refl),
+      ne_eqb t 9 (other 9 refl),
     )
+  where
+    other : (k : ℕ) → known k ≡ true → t ≡ k → ⊥
+    other k y e = let z : true ≡ false = sym y ∙ ap known (sym e) ∙ h in grind arith

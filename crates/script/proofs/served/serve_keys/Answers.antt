@@ -5,7 +5,7 @@ use Rattle.script.proofs.CallLaws.{served_as, split_as}
 use Rattle.script.proofs.served.serve_keys.Goals as goal
 
 pub returns-in-Writes : goal.returns-in-Writes
-returns-in-Writes c = rw c.in-Writes.is (served_as (split_as (track_keys Writes) c.id_end-end.ensures) c.track_write_keys.ensures)
+returns-in-Writes c = rw c.in-Writes.is (served_as (split_as (track_keys Writes) c.id_end.ensures c.split_at.ensures.front c.split_at.ensures.back) c.track_write_keys.ensures)
 
 pub returns-in-Reads : goal.returns-in-Reads
-returns-in-Reads c = rw c.in-Reads.is (served_as (split_as (track_keys Reads) c.id_end-end.ensures) c.track_read_keys.ensures)
+returns-in-Reads c = rw c.in-Reads.is (served_as (split_as (track_keys Reads) c.id_end.ensures c.split_at.ensures.front c.split_at.ensures.back) c.track_read_keys.ensures)

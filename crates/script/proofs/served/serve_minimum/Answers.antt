@@ -3,8 +3,8 @@ use native.Mathlib.Omega.{arith}
 use Rattle.script.proofs.CallLaws.{served_as, minimum_is, minimum_none}
 use Rattle.script.proofs.served.serve_minimum.Goals as goal
 
-pub returns-then-payload-gt0 : goal.returns-then-payload-gt0
-returns-then-payload-gt0 c = served_as (minimum_none c.args.payload.now (omega arith)) c.refuse.ensures
+pub returns-then-not-is_empty : goal.returns-then-not-is_empty
+returns-then-not-is_empty c = served_as (minimum_none c.args.payload.now (grind arith)) c.refuse.ensures
 
 pub returns : goal.returns
-returns c = served_as (minimum_is c.args.payload.now (omega arith)) c.min_active_seq.ensures
+returns c = served_as (minimum_is c.args.payload.now (grind arith)) c.min_active_seq.ensures
