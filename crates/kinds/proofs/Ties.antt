@@ -7,8 +7,7 @@ use mathlib.Core.Ordering.{Ordering, lt, eq, gt, swap, then}
 use native.Mathlib.Omega.{arith}
 use lib.IntN.{pos, ◌-ℤ◌}
 use mir.Syntax.{w8}
-use mir.Facts.{sfits_lit}
-use mir.Val.{to_z, of_z, SFits}
+use mir.Val.{to_z, of_z}
 use Rattle.keys.specs.Order.{order, sign}
 use Rattle.kinds.specs.declared.kind.Kind.{Kind}
 use Rattle.kinds.specs.declared.kind.Kind.TheVariants.{Unbounded, Included, Excluded}
@@ -68,11 +67,6 @@ unfolding swap
 negated_sign lt = refl
 negated_sign eq = refl
 negated_sign gt = refl
-
-pub negated_fits : (s : Ordering) → SFits w8 (pos 0 -ℤ to_z w8 (of_z w8 (sign s)))
-negated_fits lt = sfits_lit tt
-negated_fits eq = sfits_lit tt
-negated_fits gt = sfits_lit tt
 
 pub tied : (s t : Ordering) → of_z w8 (sign s) ≡ 0 → sign t ≡ sign (then s t)
 unfolding then

@@ -8,7 +8,7 @@ use native.Mathlib.Omega.{arith}
 use borrow.Author.Tests.{ne_eqb, eqb-true, eqb-false}
 use lib.Dec.{eqb}
 use lib.ListN.{length, get_or, take, set}
-use lib.Seq.{set_split, set-get_or, drop-length, take-length, take-take, get_or-take, length-take-le}
+use lib.Seq.{set_split, set-get_or, drop-length, take-take, get_or-take, length-take-le}
 use Rattle.ranges.specs.Prefixes.{increment, raised, Raises}
 
 pub increment_empty : (p : List ℕ) → length p ≡ 0 → increment p ≡ none
@@ -47,12 +47,6 @@ module _ (p : List ℕ) (h : 0 < length p) where
       ap increment last_apart ∙ increment_last (take (length p - 1) p) b n ∙ ap {B = Option (List ℕ)} some (sym (last_set (b + 1)))
 
 -- the length of an increment, as code finds it from the last byte on
-pub raises_none : (p : List ℕ) → length p ≡ 0 → Raises p 0
-raises_none p h = record { within = omega arith; same = increment_empty [] refl ∙ sym (increment_empty p h); raisable = λ z. absurd (omega arith) }
-
-pub raises_last : (p : List ℕ) → get_or p (length p - 1) 0 < 255 → Raises p (length p)
-raises_last p h = record { within = omega arith; same = ap increment (take-length p); raisable = λ z. h }
-
 pub raises_shorter : (p : List ℕ) {n : ℕ} → 0 < length p → get_or p (length p - 1) 0 ≡ 255 → Raises (take (length p - 1) p) n → Raises p n
 raises_shorter p {n} h e r =
     let l = length-take-le (length p - 1) p (omega arith) in
@@ -66,9 +60,6 @@ raises_shorter p {n} h e r =
 
 pub raised_none : {p : List ℕ} {n : ℕ} → Raises p n → n ≡ 0 → increment p ≡ none
 raised_none {p} r e = sym r.same ∙ increment_empty _ (ap (λ m. length (take m p)) e)
-
-pub raised_part : {p : List ℕ} {n : ℕ} → Raises p n → 0 < n → get_or (take n p) (length (take n p) - 1) 0 < 255
-raised_part {p} {n} r h = rw (length-take-le n p r.within, get_or-take n p (n - 1) 0 (omega arith)) (r.raisable h)
 
 -- the three ways of an increment by the first byte: a later byte is raised; this one is; there is none
 pub data Way (x : ℕ) (p : List ℕ) : Type 0 where

@@ -1,19 +1,18 @@
 -- Made keys as bytes, and the three ways of a bound with a made key.
 use Prim.Native.Nat.{ℕ, zero, suc, ◌+◌, ◌-◌, ◌≤◌, ◌<◌}
 use mathlib.Core.Path.{◌≡◌, refl, sym, ap, ◌∙◌}
-use mathlib.Core.Bool.{true, false}
+use mathlib.Core.Bool.{true}
 use mathlib.Core.List.{List, [], ◌++◌}
 use native.Mathlib.Omega.{arith}
 use native.Mathlib.Numerals.{unary_clauses}
-use borrow.Author.Tests.{lt-ltb, le-ltb}
+use borrow.Author.Tests.{le-ltb}
 use lib.ListN.{length, get_or, get_or-append, take, drop, set, replicate, length-append, length-replicate, length-set}
 use lib.Seq.{paste, take-append_seam, take-length, drop-append-add, set-append_left}
 use Rattle.keys.specs.Limit.{key_limit}
 use Rattle.kinds.specs.declared.kind.Kind.{Kind}
 use Rattle.kinds.specs.declared.kind.Kind.TheVariants.{Unbounded, Included, Excluded}
 use Rattle.kinds.specs.Bounds.{Bound, unbounded, included, excluded, bound, is_bounded}
-use Rattle.std.specs.Prelude.{Ok, Err}
-use Rattle.ranges.specs.declared.made.RangeError.TheVariants.{LongKey}
+use Rattle.std.specs.Prelude.{Ok}
 use Rattle.ranges.specs.declared.made.MadeBound.{MadeBound}
 use Rattle.ranges.specs.Made.{kind_of, key_of, padded, made_of, made_bound}
 
@@ -46,17 +45,7 @@ pub length_padded : (k : List ℕ) → length k ≤ key_limit → length (padded
 unfolding padded
 length_padded k h = simp (length-append, length-replicate) (omega arith)
 
--- the three ways of a bound with a made key
-pub made_open : (k : Kind) (x : List ℕ) → is_bounded k ≡ false → Ok (made_of unbounded) ≡ made_bound (bound k x)
-made_open Unbounded x e = refl
-made_open Included x e = cc
-made_open Excluded x e = cc
-
-pub made_long : (k : Kind) (x : List ℕ) → is_bounded k ≡ true → key_limit < length x → Err LongKey ≡ made_bound (bound k x)
-made_long Unbounded x e h = cc
-made_long Included x e h = rw (lt-ltb key_limit (length x) h)
-made_long Excluded x e h = rw (lt-ltb key_limit (length x) h)
-
+-- a bound with a made key within the limit
 pub made_short : (k : Kind) (x : List ℕ) → is_bounded k ≡ true → length x ≤ key_limit → Ok (made_of (bound k x)) ≡ made_bound (bound k x)
 made_short Unbounded x e h = cc
 made_short Included x e h = rw (le-ltb key_limit (length x) h)

@@ -1,15 +1,13 @@
 -- The bytes of an increment, and the answers of `new` by what code tested.
 use Prim.Native.Nat.{ℕ, ◌+◌, ◌-◌, ◌<◌}
 use mathlib.Core.Path.{◌≡◌, refl, sym, ap, ◌∙◌}
-use mathlib.Core.Bool.{Bool, true, false, cond, ◌||◌}
+use mathlib.Core.Bool.{Bool, cond, ◌||◌}
 use mathlib.Core.List.{List}
 use native.Mathlib.Omega.{arith}
-use lib.Dec.{ltb}
 use lib.ListN.{length, get_or, set, length-set}
-use Rattle.keys.specs.Limit.{key_limit}
 use Rattle.kinds.specs.declared.kind.Kind.{Kind}
 use Rattle.kinds.specs.declared.kind.Kind.TheVariants.{Unbounded, Included, Excluded}
-use Rattle.kinds.specs.Bounds.{bound, is_bounded}
+use Rattle.kinds.specs.Bounds.{bound}
 use Rattle.bounds.specs.Ranges.{Range, not_empty}
 use Rattle.ranges.specs.declared.made.RangeError.TheVariants.{LongKey, EmptyRange}
 use Rattle.std.specs.Prelude.{Ok, Err}
@@ -36,14 +34,3 @@ kind_back Excluded x = refl
 pub new_by : (r : Range) {a b t : Bool} → too_long r.start ≡ a → too_long r.end ≡ b → not_empty r ≡ t → cond (a || b) (Err LongKey) (cond t (Ok (kinds_of r)) (Err EmptyRange)) ≡ new_of r
 unfolding new_of
 new_by r ha hb ht = sym (λ i. cond (ha i || hb i) (Err LongKey) (cond (ht i) (Ok (kinds_of r)) (Err EmptyRange)))
-
--- the length test of a bound by its kind
-pub long_shut : (k : Kind) (x : List ℕ) → is_bounded k ≡ true → ltb key_limit (length x) ≡ too_long (bound k x)
-long_shut Unbounded x e = cc
-long_shut Included x e = refl
-long_shut Excluded x e = refl
-
-pub long_open : (k : Kind) (x : List ℕ) → is_bounded k ≡ false → false ≡ too_long (bound k x)
-long_open Unbounded x e = refl
-long_open Included x e = cc
-long_open Excluded x e = cc

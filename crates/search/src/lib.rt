@@ -23,25 +23,25 @@ pub fn conflicts(room: &[u8], at: usize, entries: usize, txn: usize) -> bool
     let start = read_eight(room, txn + START);
     let marks = Marks::of(room, txn);
     let mut found = false;
-    let mut e = Cursor::new(at, entries);
-    'search: while 0 < e.left {
-        if start < read_eight(room, e.at) {
-            let mut k = Cursor::of_list(room, e.at + KEYS);
-            while 0 < k.left {
-                let from = k.at + LENGTH;
-                let to = key_past(room, k.at);
+    let mut entry = at;
+    'search: for _ in 0..entries {
+        if start < read_eight(room, entry) {
+            let keys = Cursor::of_list(room, entry + KEYS);
+            let mut key = keys.at;
+            'keys: for _ in 0..keys.left {
+                let to = key_past(room, key);
                 let mut m = marks;
                 while !m.is_over() {
-                    if m.meets(room, &room[from..to]) {
+                    if m.meets(room, &room[key + LENGTH..to]) {
                         found = true;
                         break 'search;
                     }
                     m = m.next(room);
                 }
-                k = k.past(to);
+                key = to;
             }
         }
-        e = e.past(entry_past(room, e.at));
+        entry = entry_past(room, entry);
     }
     found
 }

@@ -26,26 +26,17 @@ impl Marks {
         let at = txn + WRITES;
         let reads_at = set_past(room, at);
         let ranges_at = set_past(room, reads_at);
-        let writes = Cursor::of_list(room, at);
-        let reads = Cursor::of_list(room, reads_at);
-        let ranges = Cursor::of_list(room, ranges_at);
         Marks {
-            writes,
-            reads,
-            ranges,
+            writes: Cursor::of_list(room, at),
+            reads: Cursor::of_list(room, reads_at),
+            ranges: Cursor::of_list(room, ranges_at),
         }
     }
 
     pub fn is_over(self) -> bool
         ensures { result ≡ eqb (marks_left self) 0 }
     {
-        if 0 < self.writes.left {
-            return false;
-        }
-        if 0 < self.reads.left {
-            return false;
-        }
-        self.ranges.left == 0
+        self.writes.left == 0 && self.reads.left == 0 && self.ranges.left == 0
     }
 
     // Whether a key meets the first mark that is left.
@@ -66,30 +57,15 @@ impl Marks {
         requires { Stays room.now self }
         ensures { Nexts room.now self result }
     {
-        let writes = self.writes;
-        let reads = self.reads;
-        let ranges = self.ranges;
-        if 0 < writes.left {
-            let end = key_past(room, writes.at);
-            return Marks {
-                writes: writes.past(end),
-                reads,
-                ranges,
-            };
+        if 0 < self.writes.left {
+            let writes = self.writes.past(key_past(room, self.writes.at));
+            return Marks { writes, ..self };
         }
-        if 0 < reads.left {
-            let end = key_past(room, reads.at);
-            return Marks {
-                writes,
-                reads: reads.past(end),
-                ranges,
-            };
+        if 0 < self.reads.left {
+            let reads = self.reads.past(key_past(room, self.reads.at));
+            return Marks { reads, ..self };
         }
-        let end = range_past(room, ranges.at);
-        Marks {
-            writes,
-            reads,
-            ranges: ranges.past(end),
-        }
+        let ranges = self.ranges.past(range_past(room, self.ranges.at));
+        Marks { ranges, ..self }
     }
 }

@@ -3,10 +3,10 @@ use Prim.Native.Nat.{ℕ, ◌+◌, ◌-◌, ◌≤◌}
 use mathlib.Core.Path.{◌≡◌, refl, sym, ap, ◌∙◌}
 use mathlib.Core.List.{List, [], ◌++◌, append-nil}
 use native.Mathlib.Omega.{arith}
-use borrow.Rule.Slice.PartMut.{put_mid, same_len_mid}
+use borrow.Rule.Slice.PartMut.{put_mid}
 use lib.ListN.{length, take, drop, length-append, length-drop, drop_of_length-le, replicate, length-replicate}
 use lib.Seq.{paste, take_all, take-append-add, drop_at, length-take-le}
-use Rattle.std.specs.Prelude.{Result, Ok, Err, IsErr}
+use Rattle.std.specs.Prelude.{Ok}
 use Rattle.machine.specs.State.{Bytes}
 use Rattle.machine.specs.Sets.{insert_all}
 use Rattle.codec.specs.Codec.{write_run}
@@ -17,8 +17,7 @@ use Rattle.layout.specs.Keys.{set_form, list_form}
 use Rattle.layout.proofs.RowLaws.{row_inside, row_slice}
 use Rattle.tracks.specs.declared.sets.Set.{Set}
 use Rattle.tracks.specs.declared.sets.Space.{Space}
-use Rattle.tracks.specs.declared.sets.Full.{Full}
-use Rattle.tracks.specs.Sets.{key_codec, AllStand, Ready, InsertedIs}
+use Rattle.tracks.specs.Sets.{key_codec, AllStand, InsertedIs}
 use Rattle.tracks.specs.Drafts.{set_size, Begun, SetStands, DraftedIs}
 
 -- a draft as it begins

@@ -3,18 +3,18 @@ use Prim.Native.Nat.{ℕ, ◌+◌, ◌-◌, ◌≤◌, ◌<◌}
 use mathlib.Core.Path.{◌≡◌, refl, sym, ap, ◌∙◌}
 use mathlib.Core.Bool.{true, and-eq-true_iff}
 use mathlib.Core.List.{List, [], ◌∷◌}
-use mathlib.Core.Logic.{◌⊎◌, ⊎_map}
+use mathlib.Core.Logic.{⊎_map}
 use mathlib.Core.Option.{Option as Maybe, none, some, none-ne-some, some-injective}
 use native.Mathlib.Omega.{arith}
 use borrow.Author.Tests.{leb-true}
 use lib.Dec.{leb}
 use lib.ListN.{length, drop, get_or}
 use lib.Seq.{slice}
-use Rattle.std.specs.Prelude.{Option, Some, None, Result, Ok, Err, IsOk, IsErr}
+use Rattle.std.specs.Prelude.{Option, Some, None, Result, Ok, Err, IsErr}
 use Rattle.fields.specs.Fields.{before, key_tag, as_key, key_list}
 use Rattle.fields.specs.declared.Malformed.{Malformed}
 use Rattle.fields.specs.declared.Span.{Span}
-use Rattle.fields.specs.Forms.{ItemAt, EndAt, NoKeyAt, NextIs, short_keys}
+use Rattle.fields.specs.Forms.{ItemAt, EndAt, NextIs, short_keys}
 use Rattle.fields.proofs.Lists.{list_nil}
 use Rattle.machine.specs.State.{Bytes, set_bytes}
 use Rattle.machine.specs.Sets.{insert, insert_all}
@@ -22,7 +22,7 @@ use Rattle.machine.proofs.SetLaws.{insert_all_longer, insert_all_bytes}
 use Rattle.layout.specs.Offsets.{length_size, any_length}
 use Rattle.moves.specs.Splices.{Spliced, used_after}
 use Rattle.moves.proofs.SpliceLaws.{drop_take}
-use Rattle.layout.specs.Rows.{Row, Rows}
+use Rattle.layout.specs.Rows.{Row}
 use Rattle.layout.proofs.RowLaws.{row_inside, row_one}
 use Rattle.layout.proofs.OpenLaws.{open_key}
 use Rattle.tracks.specs.declared.sets.Set.{Set}

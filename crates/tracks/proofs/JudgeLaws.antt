@@ -8,7 +8,7 @@ use borrow.Author.Tests.{le-leb, leb-true}
 use lib.Dec.{leb}
 use lib.ListN.{length, take, drop, get_or}
 use lib.Seq.{slice, length-slice}
-use Rattle.std.specs.Prelude.{Result, Ok, Err, IsErrAnd}
+use Rattle.std.specs.Prelude.{Ok, Err}
 use Rattle.keys.specs.Limit.{key_limit}
 use Rattle.kinds.specs.Bounds.{bound}
 use Rattle.kinds.specs.declared.kind.Kind.{Kind}
@@ -18,14 +18,13 @@ use Rattle.bounds.specs.Ranges.{Range, range, range_of, not_empty}
 use Rattle.ranges.specs.Made.{key_of}
 use Rattle.fields.specs.declared.BoundPlaces.{BoundPlaces}
 use Rattle.fields.specs.Fields.{bounds_of}
-use Rattle.fields.specs.Forms.{BoundsAt, NoBoundsIn}
+use Rattle.fields.specs.Forms.{BoundsAt}
 use Rattle.machine.specs.State.{Bytes, range_bytes}
 use Rattle.machine.specs.Serve.{short_range}
 use Rattle.moves.proofs.SpliceLaws.{drop_take}
 use Rattle.layout.specs.Offsets.{mark_size, any_length}
 use Rattle.layout.proofs.SizeLaws.{range_length}
 use Rattle.answers.proofs.StateLaws.{not_true}
-use Rattle.answers.specs.declared.Outcome.{Outcome}
 use Rattle.answers.specs.declared.Refusal.{Refusal}
 use Rattle.tracks.specs.Ranges.{judged}
 use Rattle.tracks.proofs.BoundsLaws.{bounds_record}

@@ -6,7 +6,7 @@ use mathlib.Core.List.{List, ◌∷◌, ◌++◌}
 use mathlib.Core.Logic.{◌⊎◌, inl, inr}
 use native.Mathlib.Omega.{arith}
 use lib.ListN.{length}
-use Rattle.std.specs.Prelude.{Result, Ok, Err, IsErr, IsErrAnd}
+use Rattle.std.specs.Prelude.{Ok, Err}
 use Rattle.fields.specs.declared.FormError.{FormError}
 use Rattle.fields.specs.declared.Span.{Span}
 use Rattle.fields.specs.Fields.{key_list}
@@ -33,9 +33,7 @@ use Rattle.layout.proofs.LoadLaws.{refuse, look_absent, change}
 use Rattle.layout.proofs.WideLaws.{short_wide}
 use Rattle.places.specs.Finds.{Found}
 use Rattle.edits.specs.Laid.{write_entries, write_active}
-use Rattle.answers.specs.declared.Outcome.{Outcome}
-use Rattle.answers.specs.declared.Refusal.{Refusal}
-use Rattle.answers.specs.Says.{refusal_number, status_of, value_of, form_refusal}
+use Rattle.answers.specs.Says.{refusal_number, form_refusal}
 use Rattle.answers.proofs.FormLaws.{Listed, good_list, bad_list}
 use Rattle.answers.proofs.TrackLaws.{track_absent, track_full, track_done, keys_malformed, keys_long, keys_track}
 use Rattle.answers.proofs.InsideLaws.{laid_within}
@@ -46,7 +44,7 @@ use Rattle.tracks.specs.declared.sets.Full.{Full}
 use Rattle.tracks.specs.Sets.{PassesLimits}
 use Rattle.tracks.specs.Tracks.{before_set, SetAt, Growable, SetGrown, NotGrown, GrownIs}
 use Rattle.answers.proofs.SeenLaws.{seen_load, seen_held}
-use Rattle.answers.proofs.FoundLaws.{within, space_left, not_found, here, found, place, laid, changed}
+use Rattle.answers.proofs.FoundLaws.{space_left, not_found, here, found, place, laid, changed}
 use Rattle.tracks.proofs.SetLaws.{SetIn, set_in, after_set, set_split, set_split_new}
 use Rattle.keys.specs.Limit.{key_limit}
 

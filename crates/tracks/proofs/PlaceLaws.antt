@@ -1,5 +1,5 @@
 -- The search for a key's place in a set: the key belongs behind all keys that have been passed.
-use Prim.Native.Nat.{ℕ, ◌+◌, ◌-◌, ◌≤◌, ◌<◌}
+use Prim.Native.Nat.{ℕ, ◌+◌, ◌≤◌, ◌<◌}
 use mathlib.Core.Path.{◌≡◌, refl, sym, ap, ◌∙◌}
 use mathlib.Core.List.{List, [], ◌∷◌, ◌++◌, append_assoc}
 use mathlib.Core.Ordering.{Ordering, lt, eq, gt}
@@ -24,7 +24,7 @@ Behind key less more = insert key (less ++ more) ≡ less ++ insert key more
 
 -- at turn i of n, at a place
 pub record KeySeek (d : Bytes) (n : ℕ) (key : Bytes) (at i : ℕ) : Type 0 where
-  pub now : Search key_codec (Behind key) d 0 n (to_go n i at)
+  now : Search key_codec (Behind key) d 0 n (to_go n i at)
 
 pub key_seek_start : {d : Bytes} {n : ℕ} (key : Bytes) → Rows key_codec d 0 n → KeySeek d n key 0 0
 key_seek_start key x = record { now = search_start key_codec (Behind key) (λ ks. refl) x (refl, omega arith) }

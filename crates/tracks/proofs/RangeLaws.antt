@@ -1,6 +1,6 @@
 -- A track of a range, one law for each way it ends.
-use Prim.Native.Nat.{ℕ, ◌+◌, ◌-◌, ◌≤◌, ◌<◌}
-use mathlib.Core.Path.{◌≡◌, refl, sym, ap, ◌∙◌}
+use Prim.Native.Nat.{ℕ, ◌+◌, ◌≤◌, ◌<◌}
+use mathlib.Core.Path.{◌≡◌, refl, ap, ◌∙◌}
 use mathlib.Core.Bool.{Bool, true, false, cond}
 use mathlib.Core.List.{[], ◌∷◌, ◌++◌, append_assoc}
 use mathlib.Core.Logic.{◌⊎◌, inl, inr}
@@ -38,13 +38,13 @@ use Rattle.tracks.specs.declared.sets.Space.{Space}
 use Rattle.tracks.specs.Sets.{Spent, Lacks}
 use Rattle.tracks.specs.Ranges.{judged, Appendable, AppendedTo, Appended}
 use Rattle.answers.proofs.SeenLaws.{seen_load, seen_held}
-use Rattle.answers.proofs.FoundLaws.{within, space_left, not_found, here, found, place, laid, changed}
+use Rattle.answers.proofs.FoundLaws.{space_left, not_found, here, found, place, laid, changed}
 use Rattle.tracks.proofs.BoundsLaws.{bounds_record}
 
 -- ---- what the verdict on bounds says of them
 
 -- bounds that are refused do not read as a range, or have a key over the limit, or an empty range
-pub bad_range : (P : Refusal → Type 0) (o : Option Range) (e : Refusal) → Err e ≡ judged o → (o ≡ none → P Refusal.Malformed) → ((r : Range) → o ≡ some r → short_range key_limit r ≡ false → P Refusal.LongKey)
+bad_range : (P : Refusal → Type 0) (o : Option Range) (e : Refusal) → Err e ≡ judged o → (o ≡ none → P Refusal.Malformed) → ((r : Range) → o ≡ some r → short_range key_limit r ≡ false → P Refusal.LongKey)
     → ((r : Range) → o ≡ some r → short_range key_limit r ≡ true → not_empty r ≡ false → P Refusal.EmptyRange) → P e
 bad_range P none e q m l y = let x : e ≡ Refusal.Malformed = cc in rw x (m refl)
 bad_range P (some r) e q m l y = go (short_range key_limit r) refl (not_empty r) refl q

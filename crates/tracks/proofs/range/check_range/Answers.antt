@@ -1,5 +1,5 @@
 -- The verdict by the places of the two keys is the verdict on the range that the bounds are read as.
-use mathlib.Core.Path.{sym, ◌∙◌}
+use mathlib.Core.Path.{sym}
 use mathlib.Core.Logic.{⊎_map}
 use native.Mathlib.Omega.{arith}
 use Rattle.tracks.proofs.JudgeLaws.{judged_long, judged_good, judged_empty}
