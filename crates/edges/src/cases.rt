@@ -35,7 +35,7 @@ pub fn rooms(out: &Stdout) -> io::Result<()> {
     say(
         out,
         "minimum in that room, passed one byte short",
-        min_active_seq(&room[..SHORT]),
+        min_active_seq(&room[0..SHORT]),
     )?;
     Ok(())
 }
