@@ -6,7 +6,7 @@ import unittest
 
 sys.dont_write_bytecode = True
 sys.path.insert(0, str(pathlib.Path(__file__).resolve().parent.parent))
-from wrong_answers.edits import Fault, Wrong, above, has_answers, reached, read_edit  # noqa: E402
+from wrong_answers.edits import Fault, Wrong, above, has_answers, heads, reached, read_edit  # noqa: E402
 from wrong_answers.reasons import reason  # noqa: E402
 from wrong_answers.runs import changed, runs_of, waits  # noqa: E402
 
@@ -109,27 +109,28 @@ class Edits(unittest.TestCase):
 
 class Runs(unittest.TestCase):
     def test_a_change_of_a_proof_only_takes_names_along(self):
-        code, proof = ("src/lib.rt", "i", "j"), "proofs/compare/Answers.antt"
-        followed = [("pub returns-then-b-i : goal.returns-then-b-i", "pub returns-then-b-a : goal.returns-then-b-a"), ("returns-then-b-i c =", "returns-then-b-a c =")]
-        answer("compare", changes=[code, *((proof, old, new) for old, new in followed)]).check()
+        code, proof = ("src/finds.rt", "i", "j"), "proofs/finds/find_txn/Answers.antt"
+        followed = [("pub returns-then-sign-lt0 : goal.returns-then-sign-lt0", "pub returns-then-sign-le0 : goal.returns-then-sign-le0"),
+                    ("returns-then-sign-lt0 c =", "returns-then-sign-le0 c =")]
+        answer("find_txn", crate="places", changes=[code, *((proof, old, new) for old, new in followed)]).check()
         swapped = [("c.track_write_keys.ensures", "c.track_read_keys.ensures"), ("c.track_read_keys.ensures", "c.track_write_keys.ensures")]
         answer("serve_keys", crate="script", changes=[code, *(("proofs/served/serve_keys/Answers.antt", old, new) for old, new in swapped)]).check()
         for old, new in (
             ("omega arith", "search rules"),
-            ("c.if-i-b.false", "c.if-i-b.true"),
-            ("first_ends c.loop-i.invariant", "first_ends c.requires.invariant"),
-            ("returns-then-x-y c = c.if-x-y.true", "returns-then-y-x c = c.if-b-i.true"),
-            ("pub returns-then-b-i : goal.returns-then-b-i", "pub returns-then-b-a : goal.returns-then-b-b"),
+            ("c.if-sign-lt0.false", "c.if-sign-lt0.true"),
+            ("seek_end _ c.loop.invariant", "seek_end _ c.requires.invariant"),
+            ("returns-then-x-y c = c.if-x-y.true", "returns-then-y-x c = c.if-sign-lt0.true"),
+            ("pub returns-then-sign-lt0 : goal.returns-then-sign-lt0", "pub returns-then-sign-le0 : goal.returns-then-sign-eq0"),
         ):
             with self.assertRaisesRegex(Fault, "a change of a proof"):
-                answer("compare", changes=[code, (proof, old, new)]).check()
+                answer("find_txn", crate="places", changes=[code, (proof, old, new)]).check()
         with self.assertRaisesRegex(Fault, "for something else"):
-            lemma = ("proofs/sound/Answers.antt", "le-leb _ _", "lt-leb _ _")
-            answer("sound", crate="room", changes=[code, lemma]).check()
+            lemma = ("proofs/grow_set/Answers.antt", "length-take-le _ _", "length-drop _ _")
+            answer("grow_set", crate="tracks", changes=[code, lemma]).check()
         for faulty in (
-            answer("compare", changes=[(proof, *followed[1])]),
-            answer("compare", changes=[code, ("proofs/OrderLaws.antt", "a-b", "a-c")]),
-            answer("equal", changes=[code, (proof, *followed[1])]),
+            answer("find_txn", crate="places", changes=[(proof, *followed[1])]),
+            answer("find_txn", crate="places", changes=[code, ("proofs/SeekLaws.antt", "a-b", "a-c")]),
+            answer("least_start", crate="places", changes=[code, (proof, *followed[1])]),
             answer(theorem="order_swap", changes=[("specs/Order.antt", "lt", "gt"), (proof, *followed[1])]),
         ):
             with self.assertRaisesRegex(Fault, "in src/ alone"):
@@ -146,9 +147,9 @@ class Runs(unittest.TestCase):
         self.assertEqual(changed(two, "x", [("    0", "    1", "g")]), "fn f() {\n    0\n}\n\nfn g() {\n    1\n}\n")
 
     def test_one_wrong_answer_to_a_function_in_a_run_and_wide_ones_alone(self):
-        compare = ("src/lib.rt", "        if x < y {", "        if x <= y {")
-        other = ("src/lib.rt", "        if b.len() <= i {", "        if b.len() < i {")
-        equal = ("src/lib.rt", "    compare(a, b) == 0", "    compare(a, a) == 0")
+        compare = ("src/lib.rt", "    a.cmp(b) as i8", "    b.cmp(a) as i8")
+        other = ("src/lib.rt", "    a.cmp(b) as i8", "    a.cmp(a) as i8")
+        equal = ("src/lib.rt", "    a == b", "    a == a")
         order = ("specs/Order.antt", "order [] (y ∷ ys) = lt", "order [] (y ∷ ys) = gt")
         first, second = answer("compare", changes=[compare]), answer("compare", changes=[other])
         third, rule = answer("equal", changes=[equal]), answer(theorem="order_swap", changes=[order])
@@ -157,13 +158,20 @@ class Runs(unittest.TestCase):
         self.assertEqual(len(runs_of([first, second, third], True)), 3)
 
     def test_a_caller_that_the_search_proves_is_not_tried_beside_what_it_calls(self):
-        calls = {"Kind::compare_start": {"Kind::compare_start", "Kind::tie"}, "Kind::tie": {"Kind::tie", "Kind::admits_to"}}
-        caller, callee, below = (answer(name, crate="kinds") for name in ("Kind::compare_start", "Kind::tie", "Kind::admits_to"))
+        calls = {"Kind::compare_start": {"Kind::compare_start", "Kind::compare_bound"}, "Kind::compare_bound": {"Kind::compare_bound", "Kind::tie_of"}}
+        caller, callee, below = (answer(name, crate="kinds") for name in ("Kind::compare_start", "Kind::compare_bound", "Kind::tie_of"))
         self.assertEqual([has_answers(it) for it in (caller, callee, below)], [False, True, True])
         self.assertTrue(waits(caller, callee, calls))
         self.assertFalse(waits(callee, caller, calls))
         self.assertFalse(waits(callee, below, calls))
         self.assertIn("Kind::tie", reached("kinds")["Kind::compare_start"])
+
+    def test_a_method_has_the_name_that_the_checker_gives_it(self):
+        for line, name in (("impl Kind {", "Kind::f"), ("impl TryFrom<u8> for Kind {", "KindTryFromU8::f"), ("impl From<Kind> for u8 {", "U8FromKind::f"),
+                           ("impl Chained for Keys {", "KeysChained::f"), ("impl From<fields::Malformed> for Refusal {", "RefusalFromMalformed::f"),
+                           ("impl From<Result<Outcome, Refusal>> for Answer {", "AnswerFromResultOutcomeRefusal::f"), ("pub trait Chained {", "f"),
+                           ("impl<'a> Fields<'a> {", "Fields::f"), ("impl Range<'_> {", "Range::f"), ("impl fmt::Display for Hex<'_> {", "HexDisplay::f")):
+            self.assertEqual([it[1] for it in heads(f"{line}\n    fn f(x: u8) -> u8 {{\n}}\n")], [name])
 
     def test_what_stands_on_a_crate(self):
         listed = {"a": [], "b": ["a"], "c": ["b"], "d": []}

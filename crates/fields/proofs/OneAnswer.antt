@@ -17,7 +17,6 @@ use Rattle.std.specs.Prelude.{Option as Maybe, Some, None, Result, Ok, Err}
 use Rattle.fields.specs.declared.Span.{Span}
 use Rattle.fields.specs.declared.Field.{Field}
 use Rattle.fields.specs.declared.Malformed.{Malformed}
-use Rattle.fields.specs.declared.BoundPlace.{BoundPlace}
 use Rattle.fields.specs.declared.BoundPlaces.{BoundPlaces}
 use Rattle.fields.specs.Fields.{field_head, key_tag}
 use Rattle.fields.specs.Forms.{ItemAt, EndAt, FieldIs, NextIs, BoundsAre, size_at}

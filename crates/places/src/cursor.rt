@@ -19,12 +19,6 @@ pub struct Cursor {
 }
 
 impl Cursor {
-    pub fn new(at: usize, left: usize) -> Self
-        ensures { (result.at ≡ at) × (result.left ≡ left) }
-    {
-        Cursor { at, left }
-    }
-
     // Before the records of the list at a place: they stand behind its count.
     pub fn of_list(room: &[u8], at: usize) -> Self
         requires { at + count_size ≤ length room.now }

@@ -61,9 +61,6 @@ raises_shorter p {n} h e r =
 pub raised_none : {p : List ℕ} {n : ℕ} → Raises p n → n ≡ 0 → increment p ≡ none
 raised_none {p} r e = sym r.same ∙ increment_empty _ (ap (λ m. length (take m p)) e)
 
-pub raised_part : {p : List ℕ} {n : ℕ} → Raises p n → 0 < n → get_or (take n p) (length (take n p) - 1) 0 < 255
-raised_part {p} {n} r h = rw (length-take-le n p r.within, get_or-take n p (n - 1) 0 (omega arith)) (r.raisable h)
-
 -- the three ways of an increment by the first byte: a later byte is raised; this one is; there is none
 pub data Way (x : ℕ) (p : List ℕ) : Type 0 where
   later : (k : List ℕ) → increment p ≡ some k → increment (x ∷ p) ≡ some (x ∷ k) → Way x p

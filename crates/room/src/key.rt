@@ -1,5 +1,5 @@
 // The walk over keys: one of them, and those of a set.
-ghost use Rattle.std.specs.Prelude.{◌≡◌, ◌+◌, ◌≤◌, length};
+ghost use Rattle.std.specs.Prelude.{◌+◌, ◌≤◌, length};
 ghost use Rattle.keys.specs.Limit.{key_limit};
 ghost use Rattle.room.specs.Chains.{the_keys};
 ghost use Rattle.room.specs.Counts.{a_key};

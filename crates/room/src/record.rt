@@ -1,5 +1,4 @@
 // The walk over an entry, over a transaction, and over all that are active.
-ghost use Rattle.std.specs.Prelude.{◌≡◌, ◌+◌, ◌≤◌, length};
 ghost use Rattle.keys.specs.Limit.{key_limit};
 ghost use Rattle.room.specs.Counts.{an_entry};
 ghost use Rattle.room.specs.Chains.{loose, the_txns};

@@ -1,7 +1,6 @@
 -- The verdict on the whole list is the verdict on what is left of it, by whether the keys so far were short.
 use mathlib.Core.Path.{sym, ap, ◌∙◌}
 use mathlib.Core.Bool.{cond}
-use native.Mathlib.Omega.{arith}
 use Rattle.std.specs.Prelude.{Ok, Err}
 use Rattle.fields.specs.declared.FormError.{FormError}
 use Rattle.fields.proofs.Keys.{form_end, form_long, form_short}

@@ -2,7 +2,7 @@
 use Rattle.answers.proofs.SaidLaws.{refuses}
 use Rattle.answers.proofs.FoundLaws.{within}
 use Rattle.tracks.proofs.DraftLaws.{zeros, zeros_long}
-use Rattle.commits.proofs.BatchLaws.{begun, set_inside, batch_room, room_for_last, batch_entered, batch_over}
+use Rattle.commits.proofs.BatchLaws.{begun, set_inside, batch_room, batch_entered, batch_over}
 use native.Mathlib.Omega.{arith}
 use Rattle.commits.proofs.batch.enter_keys.Goals as goal
 
