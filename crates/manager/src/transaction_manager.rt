@@ -56,11 +56,7 @@ pub fn check_has_conflict(room: &[u8], id: &[u8]) -> Result<Outcome, Refusal>
     queries::check(room, view, id)
 }
 
-pub fn track_recent_committed_txn(
-    room: &mut [u8],
-    id: &[u8],
-    seq: u64,
-) -> Result<Outcome, Refusal>
+pub fn track_recent_committed_txn(room: &mut [u8], id: &[u8], seq: u64) -> Result<Outcome, Refusal>
     ensures { Served room.old (on (commit id.now seq)) (status_of result) (value_of result) room.new }
 {
     let view = open(room).ok_or(Refusal::NoState)?;
