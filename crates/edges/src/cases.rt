@@ -78,10 +78,26 @@ pub fn ids(out: &Stdout, room: &mut [u8; SIZE]) -> io::Result<()> {
 pub fn long_keys(out: &Stdout, room: &mut [u8; SIZE]) -> io::Result<()> {
     let _ = new(room, 7);
     let _ = begin(room, A);
-    say(out, "write, key of 512 bytes", track(room, Which::Writes, 0, 1, 512))?;
-    say(out, "write, key of 513 bytes", track(room, Which::Writes, 0, 1, 513))?;
-    say(out, "read, key of 512 bytes", track(room, Which::Reads, 0, 1, 512))?;
-    say(out, "read, key of 513 bytes", track(room, Which::Reads, 0, 1, 513))?;
+    say(
+        out,
+        "write, key of 512 bytes",
+        track(room, Which::Writes, 0, 1, 512),
+    )?;
+    say(
+        out,
+        "write, key of 513 bytes",
+        track(room, Which::Writes, 0, 1, 513),
+    )?;
+    say(
+        out,
+        "read, key of 512 bytes",
+        track(room, Which::Reads, 0, 1, 512),
+    )?;
+    say(
+        out,
+        "read, key of 513 bytes",
+        track(room, Which::Reads, 0, 1, 513),
+    )?;
     say(out, "batch at 8, key of 512 bytes", batch(room, 8, 1, 512))?;
     say(out, "batch at 9, key of 513 bytes", batch(room, 9, 1, 513))?;
     say(
@@ -95,10 +111,26 @@ pub fn long_keys(out: &Stdout, room: &mut [u8; SIZE]) -> io::Result<()> {
 pub fn long_bounds(out: &Stdout, room: &mut [u8; SIZE]) -> io::Result<()> {
     let _ = new(room, 7);
     let _ = begin(room, A);
-    say(out, "range from a key of 512 bytes", range(room, (INCLUDED, 512), WITHOUT))?;
-    say(out, "range from a key of 513 bytes", range(room, (INCLUDED, 513), WITHOUT))?;
-    say(out, "range to a key of 512 bytes", range(room, WITHOUT, (EXCLUDED, 512)))?;
-    say(out, "range to a key of 513 bytes", range(room, WITHOUT, (EXCLUDED, 513)))?;
+    say(
+        out,
+        "range from a key of 512 bytes",
+        range(room, (INCLUDED, 512), WITHOUT),
+    )?;
+    say(
+        out,
+        "range from a key of 513 bytes",
+        range(room, (INCLUDED, 513), WITHOUT),
+    )?;
+    say(
+        out,
+        "range to a key of 512 bytes",
+        range(room, WITHOUT, (EXCLUDED, 512)),
+    )?;
+    say(
+        out,
+        "range to a key of 513 bytes",
+        range(room, WITHOUT, (EXCLUDED, 513)),
+    )?;
     Ok(())
 }
 
@@ -127,15 +159,31 @@ pub fn active(out: &Stdout, room: &mut [u8; SIZE]) -> io::Result<()> {
 pub fn marks(out: &Stdout, room: &mut [u8; SIZE]) -> io::Result<()> {
     let _ = new(room, 7);
     let _ = begin(room, A);
-    say(out, "write, 1025 keys at once", track(room, Which::Writes, 0, 1025, 2))?;
-    say(out, "write, 1023 keys", track(room, Which::Writes, 0, 1023, 2))?;
+    say(
+        out,
+        "write, 1025 keys at once",
+        track(room, Which::Writes, 0, 1025, 2),
+    )?;
+    say(
+        out,
+        "write, 1023 keys",
+        track(room, Which::Writes, 0, 1023, 2),
+    )?;
     say(
         out,
         "write, 2 keys with 1023 marks",
         track(room, Which::Writes, 1023, 2, 2),
     )?;
-    say(out, "write, mark 1024", track(room, Which::Writes, 1023, 1, 2))?;
-    say(out, "write, mark 1025", track(room, Which::Writes, 1024, 1, 2))?;
+    say(
+        out,
+        "write, mark 1024",
+        track(room, Which::Writes, 1023, 1, 2),
+    )?;
+    say(
+        out,
+        "write, mark 1025",
+        track(room, Which::Writes, 1024, 1, 2),
+    )?;
     say(out, "read, mark 1025", track(room, Which::Reads, 0, 1, 2))?;
     say(out, "range, mark 1025", range(room, (INCLUDED, 1), WITHOUT))?;
     say(

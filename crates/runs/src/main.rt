@@ -63,11 +63,7 @@ fn serve_at(
         return Ok(None);
     };
     let payload = record.payload;
-    let answer = Answer::from(serve_record(
-        room,
-        record.tag,
-        &runs[payload.from..payload.to],
-    ));
+    let answer = Answer::from(serve_record(room, record.tag, &runs[payload.from..payload.to]));
     println!(out; "{} {}", answer.status, answer.value)?;
     Ok(Some(payload.to))
 }
