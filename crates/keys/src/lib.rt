@@ -1,4 +1,4 @@
-// Byte order. Every comparison of keys goes through `compare`.
+// Byte order. Every order of two keys is `compare`'s.
 #![tactic(auto)]
 
 ghost use Rattle.std.specs.Prelude.{◌≡◌};

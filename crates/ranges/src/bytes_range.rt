@@ -145,10 +145,10 @@ impl BytesRange {
     pub fn increment_prefix(prefix: &[u8]) -> Result<MadeBound, RangeError>
         ensures { result ≡ made_increment prefix.now }
     {
-        if KEY_LIMIT < prefix.len() {
-            return Err(RangeError::LongKey);
+        match prefix.len() {
+            0..=KEY_LIMIT => Ok(increment(prefix)),
+            _ => Err(RangeError::LongKey),
         }
-        Ok(increment(prefix))
     }
 
     // Rust's `RangeBounds::contains`.

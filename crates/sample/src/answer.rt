@@ -2,7 +2,6 @@
 use crate::field::{Bound, Range};
 use crate::query::Query;
 use crate::text::Hex;
-use bounds::comparable_range::ComparableRange;
 use bounds::sides::Sides;
 use fields::KEY;
 use ranges::bytes_range::{BytesRange, MadeRange};

@@ -1,16 +1,16 @@
 -- Texts put one after the other, and how long a line may be.
 use Prim.Native.Nat.{ℕ, zero, suc, ◌+◌, ◌/◌, ◌%◌, ◌^◌, ◌≤◌, ◌<◌}
-use native.Mathlib.Nat.{pow-suc, le_refl}
+use native.Mathlib.Nat.{le_refl}
 use mathlib.Core.Path.{◌≡◌, refl, sym, ap, ◌∙◌}
 use mathlib.Core.Bool.{Bool, true, false, cond}
 use mathlib.Core.List.{List, [], ◌∷◌, ◌++◌}
 use native.Mathlib.Omega.{arith}
-use borrow.Author.Tests.{lt-ltb, le-ltb, ltb-true, ltb-false}
+use borrow.Author.Tests.{lt-ltb, le-ltb, ltb-false}
 use lib.Dec.{ltb}
 use Rattle.std.specs.Prelude.{decimal as std_decimal}
 use Rattle.std.proofs.lemmas.Fmt.{decimal_by_steps, length-decimal-le}
-use lib.ListN.{length, set, take, drop, length-append}
-use lib.Seq.{set_split, append_snoc, length-paste, take-paste, drop-paste, take-length}
+use lib.ListN.{length, take, drop, length-append}
+use lib.Seq.{length-paste, take-paste, drop-paste, take-length}
 use Rattle.moves.proofs.SpliceLaws.{paste_on}
 use Rattle.layout.specs.Offsets.{number_size}
 use Rattle.script.specs.Lines.{decimal_in, decimal, line_of, stop_line, line_limit, Put}

@@ -3,7 +3,7 @@ use mathlib.Core.Path.{ap}
 use native.Mathlib.Omega.{arith}
 use lib.ListN.{length}
 use Rattle.script.specs.Lines.{decimal}
-use Rattle.script.proofs.LineLaws.{byte_short, word_short, put_size, put_answer}
+use Rattle.script.proofs.LineLaws.{byte_short, word_short, put_answer}
 use Rattle.script.proofs.lines.put_line.Goals as goal
 
 pub put_decimal-space-requires : goal.put_decimal-space-requires
