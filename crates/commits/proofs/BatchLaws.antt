@@ -81,7 +81,7 @@ entering {list = list} e k m = let l = good_list (key_list list) e in record { k
 abbrev pub no_keys : Set
 no_keys = record { used = 0; count = 0 }
 
-pub begun : {v : View} {list : Bytes} {left : Space} (d : List ℕ) → Entering v list → length d ≡ set_size → v.marks + left.marks ≡ base.marks → v.bytes + left.bytes ≡ base.bytes → Begun d no_keys list left
+pub begun : {v : View} {list : Bytes} {left : Space} (d : List ℕ) → Entering v list → length d ≡ set_size → left.marks ≤ base.marks → left.bytes ≤ base.bytes → Begun d no_keys list left
 begun d x l hm hb =
     let n : length (drop count_size d) ≡ set_size - count_size = length-drop count_size d ∙ omega (arith, l) in
     record {
@@ -133,9 +133,6 @@ module _ {s : List ℕ} {v : View} (w : Seen s v) {list : Bytes} (x : Entering v
     pub set_inside : p.used ≤ length d'
     set_inside = set.inside
 
-    set_bytes_lem : take (p.used - 0) d' ≡ (set_form any_length).write (all w x)
-    set_bytes_lem = let e : p.used - 0 ≡ p.used = omega arith in ap (λ (k : ℕ). take k d') e ∙ set.whole
-
     -- the state with the entry
     abbrev more : ℕ → State
     more seq = with_entries (w.state.entries ++ (entry seq (all w x) ∷ [])) w.state
@@ -153,16 +150,16 @@ module _ {s : List ℕ} {v : View} (w : Seen s v) {list : Bytes} (x : Entering v
         let o = done_ok st (batch seq list) (max st.last seq) st' (answers seq) (seen_held w).kept in
         omega (arith, fits_size base any_length st' o.ceilings (all_map _ _ (λ t k. k.id_length) st.active o.txns), state_length any_length st', one_more st.entries seq (all w x), laid_used (seen_laid w))
 
-    pub batch_room : (v.middle ≤ v.used) × (v.used + (number_size + length (take (p.used - 0) d')) ≤ length s)
-    batch_room = (omega (arith, seen_middle w, laid_used (seen_laid w)), omega (arith, ap length set_bytes_lem, fits 0, w.size))
+    pub batch_room : (v.middle ≤ v.used) × (v.used + (number_size + length (take p.used d')) ≤ length s)
+    batch_room = (omega (arith, seen_middle w, laid_used (seen_laid w)), omega (arith, ap length set.whole, fits 0, w.size))
 
-    pub batch_entered : {s1 s2 s3 : List ℕ} {seq r : ℕ} → Spliced s v.used v.middle 0 ((number number_size).write seq ++ take (p.used - 0) d') s1 → s2 ≡ paste s1 entry_count_at ((number count_size).write (v.entries + 1)) count_size → AdvancedTo s2 seq s3 r → seq < 256 ^ number_size
+    pub batch_entered : {s1 s2 s3 : List ℕ} {seq r : ℕ} → Spliced s v.used v.middle 0 ((number number_size).write seq ++ take p.used d') s1 → s2 ≡ paste s1 entry_count_at ((number count_size).write (v.entries + 1)) count_size → AdvancedTo s2 seq s3 r → seq < 256 ^ number_size
         → Served s (on (batch seq list)) 0 r s3
     batch_entered {s1} {s2} {s3} {seq} {r} y e a b =
         let st = w.state in
         let es : List Entry = st.entries ++ (entry seq (all w x) ∷ []) in
-        let ls : length ((number number_size).write seq ++ take (p.used - 0) d') ≡ number_size + length ((set_form any_length).write (all w x)) = length-append ((number number_size).write seq) (take (p.used - 0) d') ∙ rw (length_number number_size seq, set_bytes_lem) in
-        let l = laid_enter st.entries seq (all w x) (seen_laid w) (seen_middle w) set_bytes_lem y (omega (arith, ls, fits seq)) in
+        let ls : length ((number number_size).write seq ++ take p.used d') ≡ number_size + length ((set_form any_length).write (all w x)) = length-append ((number number_size).write seq) (take p.used d') ∙ rw (length_number number_size seq, set.whole) in
+        let l = laid_enter st.entries seq (all w x) (seen_laid w) (seen_middle w) set.whole y (omega (arith, ls, fits seq)) in
         let ne : v.entries + 1 ≡ length es = sym (length-append st.entries (entry seq (all w x) ∷ []) ∙ omega (arith, w.entries)) in
         let z = advance_changed (more seq) a (seen_held w).last b (ap (λ (i : ℕ). set_entry_count i (heads_of st)) ne) (laid_entries l (v.entries + 1) e) in
         rw z.1 (change s s3 st _ (batch seq list) (seen_load w) z.0 _ (answers seq))

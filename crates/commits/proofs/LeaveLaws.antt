@@ -62,9 +62,9 @@ module _ {s : List ℕ} {used middle at end past : ℕ} (w : Span s used middle 
     pub copied_fits : past - (at + writes_at) ≤ length a
     copied_fits = omega (arith, w.short, long, ap length e, length-paste d 0 copy (length copy) copy_fits (le_refl _))
 
-    pub entry_fits : {s1 : List ℕ} → Spliced s used at (end - at) [] s1 → (middle ≤ used - (end - at)) × (used - (end - at) + (number_size + length (take (past - (at + writes_at) - 0) a)) ≤ length s1)
+    pub entry_fits : {s1 : List ℕ} → Spliced s used at (end - at) [] s1 → (middle ≤ used - (end - at)) × (used - (end - at) + (number_size + length (take (past - (at + writes_at)) a)) ≤ length s1)
     entry_fits x =
-        let n : length (take (past - (at + writes_at) - 0) a) ≡ past - (at + writes_at) - 0 = length-take-le (past - (at + writes_at) - 0) a (omega (arith, copied_fits)) in
+        let n : length (take (past - (at + writes_at)) a) ≡ past - (at + writes_at) = length-take-le (past - (at + writes_at)) a (omega (arith, copied_fits)) in
         (omega (arith, w.after, w.from, w.to, w.within), omega (arith, n, x.size, w.from, w.to, w.within, w.room))
 
 -- a copy at the front of a draft
@@ -74,15 +74,14 @@ front_of d a x n e l =
     ap (take n) (e ∙ ap (λ (y : List ℕ). y ++ drop (0 + length x) d) f) ∙ take_at x (drop (0 + length x) d) n l
 
 pub entered : {s s1 s2 a : List ℕ} {used middle at end seq : ℕ} (past : ℕ) (d : List ℕ) → Ends (set_form any_length) s (at + writes_at) past → a ≡ paste d 0 (take (past - (at + writes_at)) (drop (at + writes_at) s)) (length (take (past - (at + writes_at)) (drop (at + writes_at) s)))
-    → Spliced s used at (end - at) [] s1 → Spliced s1 (used - (end - at)) middle 0 ((number number_size).write seq ++ take (past - (at + writes_at) - 0) a) s2 → Entered s used middle at end seq s2
+    → Spliced s used at (end - at) [] s1 → Spliced s1 (used - (end - at)) middle 0 ((number number_size).write seq ++ take (past - (at + writes_at)) a) s2 → Entered s used middle at end seq s2
 entered {s} {s1} {s2} {a} {used} {middle} {at} {end} {seq} past d x e y z =
     record {
       is = λ t p. record { rest = s1; leaves = y; enters = subst (λ (k : List ℕ). Spliced s1 (used - (end - at)) middle 0 ((number number_size).write seq ++ k) s2) (copied t (writes_fills t p x)) z };
     }
   where
-    copied : (t : Txn) → Fills (set_form any_length) s (at + writes_at) t.writes past → take (past - (at + writes_at) - 0) a ≡ (set_form any_length).write t.writes
+    copied : (t : Txn) → Fills (set_form any_length) s (at + writes_at) t.writes past → take (past - (at + writes_at)) a ≡ (set_form any_length).write t.writes
     copied t p =
-        let n : past - (at + writes_at) - 0 ≡ past - (at + writes_at) = omega arith in
         let b : take (past - (at + writes_at)) (drop (at + writes_at) s) ≡ (set_form any_length).write t.writes = sym (drop_take (at + writes_at) past s) ∙ fills_slice (set_form any_length) p in
         let l : length (take (past - (at + writes_at)) (drop (at + writes_at) s)) ≡ past - (at + writes_at) = ap length b ∙ omega (arith, fills_end (set_form any_length) p) in
-        ap (λ (m : ℕ). take m a) n ∙ front_of d a (take (past - (at + writes_at)) (drop (at + writes_at) s)) (past - (at + writes_at)) e l ∙ b
+        front_of d a (take (past - (at + writes_at)) (drop (at + writes_at) s)) (past - (at + writes_at)) e l ∙ b

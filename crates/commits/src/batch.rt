@@ -22,10 +22,11 @@ fn enter_keys(room: &mut [u8], v: View, seq: u64, list: &[u8]) -> Result<Outcome
     requires { Seen room.old v × Entering v list.now }
     ensures { Served room.old (on (batch seq list.now)) (status_of result) (value_of result) room.new }
 {
+    // The largest set fits: without a heap a draft has one size.
     let mut draft = [0u8; SET_SIZE];
     let empty = Set { used: 0, count: 0 };
     let set = draft_keys(&mut draft, empty, list, Space::left(v))?;
-    put_entry(room, v.used, v.middle, seq, &draft[0..set.used]);
+    put_entry(room, v.used, v.middle, seq, &draft[..set.used]);
     write_two(room, ENTRY_COUNT, v.entries + 1);
     Ok(Outcome::Done(advance_committed_seq(room, seq)))
 }

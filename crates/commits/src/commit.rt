@@ -23,6 +23,7 @@ fn enter_writes(room: &mut [u8], v: View, txn: Span, seq: u64)
     requires { Leaving room.old v.used v.middle txn.from txn.to }
     ensures { Entered room.old v.used v.middle txn.from txn.to seq room.new }
 {
+    // A draft, since taking the transaction out overwrites its writes; without a heap it has one size.
     let mut draft = [0u8; SET_SIZE];
     let from = txn.from + WRITES;
     let past = set_past(room, from);
@@ -30,7 +31,7 @@ fn enter_writes(room: &mut [u8], v: View, txn: Span, seq: u64)
     let gone = txn.to - txn.from;
     copy_in(&mut draft, 0, &room[from..past]);
     remove(room, v.used, txn.from, gone);
-    put_entry(room, v.used - gone, v.middle, seq, &draft[0..size]);
+    put_entry(room, v.used - gone, v.middle, seq, &draft[..size]);
 }
 
 // "the transaction leaves; its write set becomes the last entry; if nobody is active now, the list is emptied; the number

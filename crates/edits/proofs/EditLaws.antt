@@ -1,26 +1,21 @@
 -- The bytes that the changes of a room put in and take out.
-use Prim.Native.Nat.{ℕ, ◌+◌, ◌-◌, ◌≤◌}
-use native.Mathlib.Nat.{add-zero}
-use mathlib.Core.Path.{◌≡◌, refl, sym, ap, ◌∙◌}
+use Prim.Native.Nat.{ℕ, ◌+◌, ◌≤◌}
+use mathlib.Core.Path.{◌≡◌, refl, ap, ◌∙◌}
 use mathlib.Core.List.{List, [], ◌++◌, append_assoc, append-nil}
 use native.Mathlib.Omega.{arith}
-use lib.ListN.{length, drop, length-append, length-replicate, replicate}
-use lib.Seq.{paste, paste-zero, take_all}
+use lib.ListN.{length, length-append, length-replicate, replicate}
+use lib.Seq.{paste, take_all}
 use Rattle.machine.specs.Serve.{new_txn}
 use Rattle.codec.specs.Codec.{write_run, write_number}
 use Rattle.codec.specs.Formats.{number, raw, bind, only, via, run}
 use Rattle.codec.proofs.NumberLaws.{length_number}
 use Rattle.moves.specs.Splices.{Spliced, used_after}
-use Rattle.moves.proofs.SpliceLaws.{spliced, splice_on, paste_on}
-use Rattle.layout.specs.Offsets.{number_size, count_size, id_size, last_at, part_at, entry_count_at, active_count_at, entries_at, keys_at, start_at, writes_at, txn_size, any_length}
+use Rattle.moves.proofs.SpliceLaws.{splice_on, paste_on}
+use Rattle.layout.specs.Offsets.{number_size, count_size, id_size, last_at, entry_count_at, active_count_at, entries_at, keys_at, start_at, writes_at, txn_size, any_length}
 use Rattle.layout.specs.Keys.{set_form, ranges_form, list_form}
 use Rattle.layout.specs.Records.{head_form, counts_form, entries_form, active_form, part_form, txn_head_form, txn_form, stamp}
 use Rattle.layout.specs.States.{plain_form}
-use Rattle.edits.specs.Edits.{Freshened}
-
-pub removed : (s s' : List ℕ) (used at n : ℕ) → at + n ≤ used → used ≤ length s → s' ≡ paste s at (drop (at + n) s) (used - (at + n)) → Spliced s used at n [] s'
-removed s s' used at n h k e =
-    spliced s [] used at n h k (omega arith) s' s' (e ∙ ap (λ (x : ℕ). paste s x (drop (at + n) s) (used - (at + n))) (sym (add-zero at))) (paste-zero s' at [])
+use Rattle.edits.specs.Edits.{Freshened, HeadsEmptied}
 
 length_two : (a b : List ℕ) (n m : ℕ) → length a ≡ n → length b ≡ m → length (a ++ b) ≡ n + m
 length_two a b n m ea eb = length-append a b ∙ rw (ea, eb)
@@ -34,23 +29,32 @@ paste_two d at a b n m x y ea eb h ex ey =
     ∙ ap (λ (z : List ℕ). paste z (at + n) b m) ex
     ∙ rw (← ea, ← eb, ← length-append a b) (paste_on d at a b k)
 
-pub fresh_written : (s a b c d : List ℕ) (n : ℕ) → entries_at ≤ length s
-    → a ≡ paste s 0 ((number number_size).write stamp) number_size → b ≡ paste a last_at ((number number_size).write n) number_size
-    → c ≡ paste b entry_count_at ((number count_size).write 0) count_size → d ≡ paste c active_count_at ((number count_size).write 0) count_size → Freshened s n d
+-- the number and the two counts, one right behind the other
+pub heads_emptied : (s a b c : List ℕ) (n : ℕ) → entries_at ≤ length s → a ≡ paste s last_at ((number number_size).write n) number_size
+    → b ≡ paste a entry_count_at ((number count_size).write 0) count_size → c ≡ paste b active_count_at ((number count_size).write 0) count_size → HeadsEmptied s n c
+heads_emptied s a b c n h ea eb ec =
+    let N : List ℕ = (number number_size).write n in
+    let Z : List ℕ = (number count_size).write 0 in
+    let l1 : length N ≡ number_size = length_number number_size n in
+    let l2 : length Z ≡ count_size = length_number count_size 0 in
+    let p1 = paste_two s last_at N Z number_size count_size a b l1 l2 (omega arith) ea eb in
+    let p2 = paste_two s last_at (N ++ Z) Z (number_size + count_size) count_size b c (length_two N Z number_size count_size l1 l2) l2 (omega arith) p1 ec in
+    let e : (N ++ Z) ++ Z ≡ N ++ (Z ++ Z) = simp append_assoc in
+    record { bytes = p2 ∙ ap (λ (x : List ℕ). paste s last_at x (number_size + (count_size + count_size))) e }
+
+pub fresh_written : (s a b : List ℕ) (n : ℕ) → entries_at ≤ length s → a ≡ paste s 0 ((number number_size).write stamp) number_size → HeadsEmptied a n b → Freshened s n b
 unfolding plain_form part_form head_form counts_form entries_form active_form run write_run via bind only
-fresh_written s a b c d n h ea eb ec ed =
+fresh_written s a b n h ea w =
     let S : List ℕ = (number number_size).write stamp in
     let N : List ℕ = (number number_size).write n in
     let Z : List ℕ = (number count_size).write 0 in
     let l1 : length S ≡ number_size = length_number number_size stamp in
     let l2 : length N ≡ number_size = length_number number_size n in
     let l3 : length Z ≡ count_size = length_number count_size 0 in
-    let l12 = length_two S N number_size number_size l1 l2 in
-    let p1 = paste_two s 0 S N number_size number_size a b l1 l2 (omega arith) ea eb in
-    let p2 = paste_two s 0 (S ++ N) Z part_at count_size b c l12 l3 (omega arith) p1 ec in
-    let p3 = paste_two s 0 ((S ++ N) ++ Z) Z active_count_at count_size c d (length_two (S ++ N) Z part_at count_size l12 l3) l3 (omega arith) p2 ed in
-    let e : ((S ++ N) ++ Z) ++ Z ≡ (S ++ N) ++ ((Z ++ Z) ++ ([] ++ [])) = simp (append_assoc, append-nil) in
-    record { bytes = p3 ∙ ap (λ (x : List ℕ). paste s 0 x entries_at) e }
+    let l4 = length_two N (Z ++ Z) number_size (count_size + count_size) l2 (length_two Z Z count_size count_size l3 l3) in
+    let p = paste_two s 0 S (N ++ (Z ++ Z)) number_size (number_size + (count_size + count_size)) a b l1 l4 (omega arith) ea w.bytes in
+    let e : S ++ (N ++ (Z ++ Z)) ≡ (S ++ N) ++ ((Z ++ Z) ++ ([] ++ [])) = simp (append_assoc, append-nil) in
+    record { bytes = p ∙ ap (λ (x : List ℕ). paste s 0 x entries_at) e }
 
 pub entry_put : (s s1 s2 head set : List ℕ) (used at n : ℕ) → at ≤ used → used ≤ length s → head ≡ (number number_size).write n
     → Spliced s used at 0 head s1 → Spliced s1 (used + keys_at) (at + keys_at) 0 set s2 → Spliced s used at 0 ((number number_size).write n ++ set) s2

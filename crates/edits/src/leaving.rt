@@ -3,6 +3,7 @@ ghost use Rattle.std.specs.Prelude.{◌≤◌, length};
 ghost use Rattle.layout.specs.Offsets.{entries_at, any_length};
 ghost use Rattle.layout.specs.Records.{entry_form};
 ghost use Rattle.layout.specs.Rows.{Rows};
+ghost use Rattle.edits.specs.Edits.{HeadsEmptied};
 ghost use Rattle.edits.specs.Leaving.{Prunes, Prunable, Recycled, Emptied};
 
 use crate::remove;
@@ -44,7 +45,8 @@ fn prune_entries(room: &mut [u8], n: usize, least: u64) -> Kept
 // "if nobody is active now, the list is emptied"
 pub fn empty_recent_committed_txns(room: &mut [u8], last: u64)
     requires { entries_at ≤ length room.old }
-    ensures { Emptied room.old last room.new }
+    ensures changed { Emptied room.old last room.new }
+    ensures written { HeadsEmptied room.old last room.new }
 {
     write_eight(room, LAST, last);
     write_two(room, ENTRY_COUNT, 0);

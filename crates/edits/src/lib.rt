@@ -9,9 +9,10 @@ ghost use Rattle.layout.specs.Offsets.{number_size, id_size, entries_at, txn_siz
 ghost use Rattle.layout.specs.Records.{txn_form};
 ghost use Rattle.edits.specs.Edits.{Freshened};
 
-use codec::numbers::{write_eight, write_two};
-use layout::{ACTIVE_COUNT, ENTRY_COUNT, ID, KEYS, LAST, STAMP, START, TXN};
-use moves::{shift, splice};
+use crate::leaving::empty_recent_committed_txns;
+use codec::numbers::write_eight;
+use layout::{ID, KEYS, STAMP, START, TXN};
+use moves::splice;
 
 pub mod leaving;
 pub mod oracle;
@@ -21,8 +22,7 @@ pub fn remove(room: &mut [u8], used: usize, at: usize, n: usize)
     requires { (at + n ≤ used) × (used ≤ length room.old) }
     ensures { Spliced room.old used at n [] room.new }
 {
-    let tail = at + n;
-    shift(room, tail, at, used - tail);
+    splice(room, used, at, n, &[]);
 }
 
 // Writes the record of a fresh room's state.
@@ -31,9 +31,7 @@ pub fn write_fresh(room: &mut [u8], last: u64)
     ensures { Freshened room.old last room.new }
 {
     write_eight(room, 0, STAMP);
-    write_eight(room, LAST, last);
-    write_two(room, ENTRY_COUNT, 0);
-    write_two(room, ACTIVE_COUNT, 0);
+    empty_recent_committed_txns(room, last);
 }
 
 // Puts the record of a transaction that has just begun in at a place of the first `used` bytes.
@@ -41,6 +39,7 @@ pub fn put_txn(room: &mut [u8], used: usize, at: usize, id: &[u8], start: u64)
     requires { (at ≤ used) × (used + txn_size ≤ length room.old) × (length id.now ≡ id_size) }
     ensures { Spliced room.old used at 0 ((txn_form any_length).write (new_txn id.now start)) room.new }
 {
+    // Each new transaction takes as many bytes.
     let mut new = [0; TXN];
     new[..ID].copy_from_slice(id);
     write_eight(&mut new, START, start);

@@ -13,7 +13,7 @@ pub fn copy_in(room: &mut [u8], at: usize, src: &[u8])
     room[at..at + src.len()].copy_from_slice(src);
 }
 
-// Copies `n` bytes from one place to another; a tail that stays where it is costs nothing.
+// Copies `n` bytes from one place to another; bytes that stay where they are cost nothing.
 pub fn shift(room: &mut [u8], from: usize, to: usize, n: usize)
     requires { (from + n ≤ length room.old) × (to + n ≤ length room.old) }
     ensures { room.new ≡ paste room.old to (drop from room.old) n }
@@ -24,6 +24,7 @@ pub fn shift(room: &mut [u8], from: usize, to: usize, n: usize)
 }
 
 // Replaces, in the first `used` bytes of a slice, the `gone` bytes at a place by others, and shifts what stands after them.
+// The room is lent, so its used length stands beside it.
 pub fn splice(room: &mut [u8], used: usize, at: usize, gone: usize, src: &[u8])
     requires { (at + gone ≤ used) × (used ≤ length room.old) × (used_after used gone src.now ≤ length room.old) }
     ensures { Spliced room.old used at gone src.now room.new }

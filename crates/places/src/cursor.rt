@@ -11,7 +11,8 @@ use codec::numbers::read_two;
 use kinds::kind::Kind;
 use layout::{BOUND, COUNT, LENGTH};
 
-// Where the first of the records that are left stands, and how many they are.
+// Where the first of the records that are left stands, and how many they are. Records differ in length, so no slice of them
+// stands for it.
 #[derive(Clone, Copy)]
 pub struct Cursor {
     pub at: usize,
@@ -24,10 +25,9 @@ impl Cursor {
         requires { at + count_size ≤ length room.now }
         ensures { CountAt room.now at result }
     {
-        let left = read_two(room, at);
         Cursor {
             at: at + COUNT,
-            left,
+            left: read_two(room, at),
         }
     }
 

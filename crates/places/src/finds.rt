@@ -11,6 +11,7 @@ use keys::compare;
 use layout::{ID, START};
 
 // Looks for an id among the n transactions from a place on: where its transaction stands, or else the place that it belongs to.
+// Records differ in length, so it goes from one to the next.
 pub fn find_txn(room: &[u8], at: usize, n: usize, id: &[u8]) -> Result<Span, usize>
     requires { Rows (txn_form any_length) room.now at n }
     ensures { Found room.now at n id.now result }

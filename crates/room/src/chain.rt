@@ -10,7 +10,7 @@ use layout::COUNT;
 pub trait Chained {
     ghost chain: { Chain };
 
-    // Where the one at a place ends.
+    // Where the one at a place ends. A struct of a room and a place in it would be made anew at each step.
     fn one_end(room: &[u8], at: usize) -> Option<Tally>
         requires { at ≤ length room.now }
         ensures { Walks chain.one room.now at result };

@@ -29,7 +29,7 @@ struct Top {
 }
 
 // Where the parts of a state's record stand, and the machine's totals: the active ones begin at `middle`, the record ends at
-// `used`.
+// `used`. It doesn't hold the room: bytes that are lent and bytes that may change would need a view each.
 #[derive(Clone, Copy)]
 pub struct View {
     pub last: u64,

@@ -26,10 +26,7 @@ fn bound_end(room: &[u8], at: usize) -> Option<StoredBound>
     requires { at ≤ length room.now }
     ensures { BoundIs key_limit room.now at result }
 {
-    if room.len() - at < TAG {
-        return None;
-    }
-    let kind = Kind::try_from(room[at]).ok()?;
+    let kind = Kind::try_from(*room.get(at)?).ok()?;
     let key = key_end(room, at + TAG, limit_of(kind))?;
     Some(StoredBound { kind, end: key.end })
 }
@@ -40,8 +37,7 @@ fn limit_of(kind: Kind) -> usize
 {
     match kind {
         Kind::Unbounded => 0,
-        Kind::Included => KEY_LIMIT,
-        Kind::Excluded => KEY_LIMIT,
+        Kind::Included | Kind::Excluded => KEY_LIMIT,
     }
 }
 

@@ -15,6 +15,7 @@ use places::skips::{entry_past, key_past};
 pub mod marks;
 
 // Whether one of the entries at a place is later than the start of the transaction at another and wrote a key that it tracks.
+// The transaction is its place alone, as the room is lent beside it.
 pub fn conflicts(room: &[u8], at: usize, entries: usize, txn: usize) -> bool
     requires rows { Rows (entry_form any_length) room.now at entries }
     requires here { Here (txn_form any_length) room.now txn }
@@ -31,6 +32,7 @@ pub fn conflicts(room: &[u8], at: usize, entries: usize, txn: usize) -> bool
             'keys: for _ in 0..keys.left {
                 let to = key_past(room, key);
                 let mut m = marks;
+                // Marks stand in three rows, and a cursor says how many each has left.
                 while !m.is_over() {
                     if m.meets(room, &room[key + LENGTH..to]) {
                         found = true;

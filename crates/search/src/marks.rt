@@ -18,7 +18,7 @@ pub struct Marks {
 }
 
 impl Marks {
-    // Before the marks of the transaction at a place.
+    // Before the marks of the transaction at a place. The transaction is its place alone, as the room is lent beside it.
     pub fn of(room: &[u8], txn: usize) -> Self
         requires { Here (txn_form any_length) room.now txn }
         ensures { MarksAt room.now txn result }

@@ -15,6 +15,6 @@ pub fn draft_keys(draft: &mut [u8], set: Set, list: &[u8], space: Space) -> Resu
     write_two(draft, 0, set.count);
     Ok(Set {
         used: COUNT + set.used,
-        count: set.count,
+        ..set
     })
 }

@@ -48,6 +48,7 @@ fn grow_set(
     requires { Growable room.old used at list.now space }
     ensures { GrownIs room.old used at list.now space room.new result }
 {
+    // The largest set fits: without a heap a draft has one size.
     let mut draft = [0u8; SET_SIZE];
     let from = at + COUNT;
     let end = set_past(room, at);
@@ -62,7 +63,8 @@ fn grow_set(
     Ok(new.count - count)
 }
 
-// Where that set of the transaction at a place stands.
+// Where a set of the transaction at a place stands: the reads stand behind the writes. The transaction is its place alone, as the
+// room is lent beside it.
 fn set_at(room: &[u8], txn: usize, which: Which) -> usize
     requires { Here (txn_form any_length) room.now txn }
     ensures { SetAt room.now txn which result }

@@ -11,7 +11,7 @@ use places::skips::key_past;
 use room::View;
 use room::ceilings::{BYTE_LIMIT, MARK_LIMIT};
 
-// A set of `count` keys in the first `used` bytes of a draft.
+// A set of `count` keys in the first `used` bytes of a draft. `used` counts from the first key; a whole record's, from its count.
 #[derive(Clone, Copy)]
 pub struct Set {
     pub used: usize,
@@ -56,7 +56,7 @@ impl Space {
     }
 }
 
-// Where a new key belongs in a set; none if it is there.
+// Where a new key belongs in a set; none if it is there. Records differ in length, so it goes from one to the next.
 fn find_place(draft: &[u8], count: usize, key: &[u8]) -> Option<usize>
     requires { Rows key_codec draft.now 0 count }
     ensures { KeyPlaceIs draft.now count key.now result }

@@ -1,6 +1,6 @@
--- The four numbers, one right behind the other, are the record of the fresh state.
+-- The stamp and the heads, one right behind the other, are the record of the fresh state.
 use Rattle.edits.proofs.EditLaws.{fresh_written}
 use Rattle.edits.proofs.write_fresh.Goals as goal
 
 pub returns : goal.returns
-returns c = fresh_written c.args.room.now _ _ _ _ _ c.requires c.write_eight.ensures c.write_eight-2.ensures c.write_two.ensures c.write_two-2.ensures
+returns c = fresh_written c.args.room.now _ _ _ c.requires c.write_eight.ensures c.empty_recent_committed_txns.ensures.written

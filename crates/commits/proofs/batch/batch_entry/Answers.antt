@@ -9,7 +9,7 @@ pub returns-in_err-check_keys : goal.returns-in_err-check_keys
 returns-in_err-check_keys c = refuses _ _ c.from_residual.ensures.1 (batch_bad c.requires (sym c.in_err-check_keys.was ∙ c.check_keys.ensures))
 
 pub returns-then-v-eq0 : goal.returns-then-v-eq0
-returns-then-v-eq0 c = batch_nobody c.requires (sym c.in_ok-check_keys.was ∙ c.check_keys.ensures) c.if-v-eq0.true c.max-value.ensures c.empty_recent_committed_txns.ensures (omega (arith, c.ranges.seq))
+returns-then-v-eq0 c = batch_nobody c.requires (sym c.in_ok-check_keys.was ∙ c.check_keys.ensures) c.if-v-eq0.true c.max-value.ensures c.empty_recent_committed_txns.ensures.changed (omega (arith, c.ranges.seq))
 
 pub returns-then-v-ge-ENTRY_LIMIT : goal.returns-then-v-ge-ENTRY_LIMIT
 returns-then-v-ge-ENTRY_LIMIT c = batch_many c.requires (sym c.in_ok-check_keys.was ∙ c.check_keys.ensures) c.if-v-eq0.false (omega (arith, c.if-v-ge-ENTRY_LIMIT.true))

@@ -15,7 +15,7 @@ pub returns-in_default : goal.returns-in_default
 returns-in_default c = commit_unknown c.requires c.if-id-ne-ID.false c.in_default.ensures c.advance_committed_seq.ensures (omega (arith, c.ranges.seq))
 
 pub returns-then-v-eq1 : goal.returns-then-v-eq1
-returns-then-v-eq1 c = commit_only c.requires c.if-id-ne-ID.false c.in-Ok.ensures c.if-v-eq1.true c.max-value.ensures c.empty_recent_committed_txns.ensures (omega (arith, c.ranges.seq))
+returns-then-v-eq1 c = commit_only c.requires c.if-id-ne-ID.false c.in-Ok.ensures c.if-v-eq1.true c.max-value.ensures c.empty_recent_committed_txns.ensures.changed (omega (arith, c.ranges.seq))
 
 pub returns-then-v-ge-ENTRY_LIMIT : goal.returns-then-v-ge-ENTRY_LIMIT
 returns-then-v-ge-ENTRY_LIMIT c = commit_many c.requires c.if-id-ne-ID.false c.in-Ok.ensures c.if-v-eq1.false (omega (arith, c.if-v-ge-ENTRY_LIMIT.true))

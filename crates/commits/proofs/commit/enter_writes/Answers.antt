@@ -23,8 +23,8 @@ slice_bounds-copy_in-end-2 c = let w = (writes_span c.requires c.set_past-past.e
 pub copy_in-requires : goal.copy_in-requires
 copy_in-requires c = copy_fits (writes_span c.requires c.set_past-past.ensures) zeros zeros_long
 
-pub slice_bounds-put_entry-end : goal.slice_bounds-put_entry-end
-slice_bounds-put_entry-end c = copied_fits (writes_span c.requires c.set_past-past.ensures) zeros zeros_long c.copy_in.ensures
+pub slice_bounds-draft-end : goal.slice_bounds-draft-end
+slice_bounds-draft-end c = copied_fits (writes_span c.requires c.set_past-past.ensures) zeros zeros_long c.copy_in.ensures
 
 pub put_entry-requires : goal.put_entry-requires
 put_entry-requires c = entry_fits (writes_span c.requires c.set_past-past.ensures) zeros zeros_long c.copy_in.ensures c.remove.ensures

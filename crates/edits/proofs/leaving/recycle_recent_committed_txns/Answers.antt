@@ -7,7 +7,7 @@ pub empty_recent_committed_txns-requires : goal.empty_recent_committed_txns-requ
 empty_recent_committed_txns-requires c = recycle_room c.requires
 
 pub returns-then-v-eq0 : goal.returns-then-v-eq0
-returns-then-v-eq0 c = recycle_nobody c.requires c.if-v-eq0.true c.empty_recent_committed_txns.ensures
+returns-then-v-eq0 c = recycle_nobody c.requires c.if-v-eq0.true c.empty_recent_committed_txns.ensures.changed
 
 pub least_start-least-requires : goal.least_start-least-requires
 least_start-least-requires c = recycle_active c.requires
