@@ -12,7 +12,7 @@ use room::ceilings::SIZE;
 use std::io;
 use std::io::Stdout;
 
-// Place for 65 keys of 512 bytes, and for the number of one more.
+// Place for 65 keys of 512 bytes, and for the number of one more: an array, since the program has no heap.
 const LIST: usize = 33480;
 
 // Place for a bound of 513 bytes and an unbounded one.
@@ -41,7 +41,7 @@ pub fn leave(room: &mut [u8; SIZE], id: u8) -> Said {
     drop_txn(room, &[id; 16])
 }
 
-// Adds keys of one size, numbered on from the first, to one of the two sets.
+// Adds keys of one size, numbered on from the first, to one of the two sets. The manager has a call for each, as the host has.
 pub fn track(room: &mut [u8; SIZE], which: Which, first: usize, count: usize, size: usize) -> Said
     requires { (first + count ≤ 65536) × (size ≤ 65535) }
 {
