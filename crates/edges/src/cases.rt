@@ -183,7 +183,11 @@ pub fn marks(out: &Stdout, room: &mut [u8; SIZE]) -> io::Result<()> {
         track(room, Which::Writes, 1024, 1, 2),
     )?;
     say(out, "read, mark 1025", track(room, Which::Reads, 0, 1, 2))?;
-    say(out, "range, mark 1025", range(room, (Kind::Included, 1), WITHOUT))?;
+    say(
+        out,
+        "range, mark 1025",
+        range(room, (Kind::Included, 1), WITHOUT),
+    )?;
     say(
         out,
         "write, 1024 keys that are in the set",
