@@ -5,7 +5,7 @@ ghost use Rattle.bounds.specs.Sides.{sided, other_side, max_start, min_end, max_
 
 use kinds::kind::Kind;
 
-// Which of two ranges a part comes from.
+// Which of two ranges a part comes from. A side's number at the boundary is its place here.
 #[derive(Clone, Copy)]
 pub enum Side {
     First,

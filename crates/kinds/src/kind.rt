@@ -9,7 +9,8 @@ pub const INCLUDED: u8 = 0x11;
 
 pub const EXCLUDED: u8 = 0x12;
 
-// What kind of bound a key makes: Rust's `Bound`, with the key in a slice beside it.
+// What kind of bound a key makes: Rust's `Bound`, with the key in a slice beside it. The variants stand in the order of
+// starts at equal keys.
 #[derive(Clone, Copy, PartialEq, Eq, PartialOrd, Ord)]
 pub enum Kind {
     Unbounded,
@@ -48,26 +49,29 @@ impl Kind {
         }
     }
 
-    // Where a start of this kind stands against one of the other at equal keys.
+    // Where a start of this kind stands against one of the other at equal keys: a number, so that an end's tie is its
+    // negation.
     fn tie(self, other: Kind) -> i8
         ensures { result ≡ sign (tie self other) }
     {
         self.cmp(&other) as i8
     }
 
+    // A number, as `keys::compare` answers. Starts and ends have an order each; what they share is `compare_bound`.
     pub fn compare_start(self, key: &[u8], other: Kind, other_key: &[u8]) -> i8
         ensures { result ≡ sign (start_order (bound self key.now) (bound other other_key.now)) }
     {
         self.compare_bound(key, other, other_key, true)
     }
 
+    // The same of two ends.
     pub fn compare_end(self, key: &[u8], other: Kind, other_key: &[u8]) -> i8
         ensures { result ≡ sign (end_order (bound self key.now) (bound other other_key.now)) }
     {
         self.compare_bound(key, other, other_key, false)
     }
 
-    // Two bounds of one sort, both starts or both ends: the Rust's `cmp_bound`.
+    // Two bounds of one sort, both starts or both ends: the Rust's `cmp_bound`, as a number like its parts.
     fn compare_bound(self, key: &[u8], other: Kind, other_key: &[u8], start: bool) -> i8
         ensures { result ≡ sign (bound_order start (bound self key.now) (bound other other_key.now)) }
     {
@@ -82,7 +86,7 @@ impl Kind {
         if o == 0 { t } else { o }
     }
 
-    // An end's tie is the negated start's tie.
+    // An end's tie is the negated start's tie; the flag is the one that the definition `bound_order` takes.
     fn tie_of(self, other: Kind, start: bool) -> i8
         ensures { result ≡ sign (tie_of start self other) }
     {

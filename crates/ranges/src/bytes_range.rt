@@ -96,7 +96,7 @@ impl BytesRange {
         inner: ComparableRange::ALL,
     };
 
-    // Whether a pair of bounds makes a range: the source's assertion, with the added limit before it.
+    // The range of a pair of bounds, or why it is none: the source's assertion, with the added limit before it.
     pub fn new(start: Kind, start_key: &[u8], end: Kind, end_key: &[u8]) -> Result<Self, RangeError>
         ensures { result ≡ new_of (range (bound start start_key.now) (bound end end_key.now)) }
     {
@@ -110,6 +110,7 @@ impl BytesRange {
         Err(RangeError::EmptyRange)
     }
 
+    // The whole key space by name, as document 01 has it, for callers.
     pub fn unbounded() -> Self
         ensures { (result.inner.start ≡ Kind.Unbounded) × (result.inner.end ≡ Kind.Unbounded) }
     {
@@ -151,7 +152,7 @@ impl BytesRange {
         }
     }
 
-    // Rust's `RangeBounds::contains`.
+    // Rust's `RangeBounds::contains`, for callers.
     pub fn contains(self, start_key: &[u8], end_key: &[u8], key: &[u8]) -> bool
         ensures { result ≡ holds (range_of self.inner start_key.now end_key.now) key.now }
     {

@@ -15,7 +15,7 @@ pub enum RangeError {
     EmptyRange,
 }
 
-// A bound whose key was made: the first len of the bytes, with zeros after them.
+// A bound whose key was made: the first len of the bytes, with zeros after them as the host gets them, and no heap.
 #[derive(Clone, Copy)]
 pub struct MadeBound {
     pub kind: Kind,

@@ -24,7 +24,7 @@ impl Range<'_> {
     }
 }
 
-// Where the next field begins.
+// The fields that are not read yet: `at` is where the next begins.
 #[derive(Drop)]
 pub struct Fields<'a> {
     pub queries: &'a [u8],

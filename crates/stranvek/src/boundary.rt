@@ -11,6 +11,7 @@ use kinds::kind::{Kind, UNBOUNDED};
 use ranges::bytes_range::{BytesRange, MadeRange};
 use ranges::made::{MadeBound, RangeError};
 
+// An order as the host reads it; the status is always 0.
 #[repr(C)]
 #[derive(Clone, Copy)]
 pub struct Compared {
@@ -26,6 +27,7 @@ impl From<i8> for Compared {
     }
 }
 
+// A yes or no as the host reads it; the status is always 0.
 #[repr(C)]
 #[derive(Clone, Copy)]
 pub struct Told {
@@ -41,6 +43,7 @@ impl From<bool> for Told {
     }
 }
 
+// Two sides as the host reads them: C has no `Option`, so `given` says whether the rest counts.
 #[repr(C)]
 #[derive(Clone, Copy)]
 pub struct Pair {
@@ -52,6 +55,7 @@ pub struct Pair {
     pub end_side: u8,
 }
 
+// A range or its refusal as the host reads it: C has no `Result`, so the status says which.
 #[repr(C)]
 #[derive(Clone, Copy)]
 pub struct NewRange {
@@ -79,6 +83,7 @@ impl From<Result<BytesRange, RangeError>> for NewRange {
     }
 }
 
+// A made bound as the host reads it, with zeros after the key.
 #[repr(C)]
 #[derive(Clone, Copy)]
 pub struct Key {
@@ -100,6 +105,7 @@ impl From<MadeBound> for Key {
     }
 }
 
+// A made bound or its refusal, told by the status.
 #[repr(C)]
 #[derive(Clone, Copy)]
 pub struct MadeKey {
@@ -124,6 +130,7 @@ impl From<Result<MadeBound, RangeError>> for MadeKey {
     }
 }
 
+// Two made bounds or their refusal, told by the status.
 #[repr(C)]
 #[derive(Clone, Copy)]
 pub struct MadeKeys {
@@ -176,6 +183,7 @@ fn status_of(error: RangeError) -> u8
     }
 }
 
+// Two sides as the host reads them, each with its bound's kind: a function, since the kinds are no part of the sides.
 pub fn pair_of(sides: Option<Sides>, a: ComparableRange, b: ComparableRange) -> Pair
     ensures { result ≡ paired sides a.start b.start a.end b.end }
 {
