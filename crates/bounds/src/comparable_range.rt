@@ -38,13 +38,13 @@ impl ComparableRange {
     ) -> i8
         ensures { result ≡ sign (range_order (range_of self start_key.now end_key.now) (range_of other other_start_key.now other_end_key.now)) }
     {
-        let o = self
+        match self
             .start
-            .compare_start(start_key, other.start, other_start_key);
-        if o == 0 {
-            return self.end.compare_end(end_key, other.end, other_end_key);
+            .compare_start(start_key, other.start, other_start_key)
+        {
+            0 => self.end.compare_end(end_key, other.end, other_end_key),
+            order => order,
         }
-        o
     }
 
     pub fn intersect<'a>(
@@ -164,7 +164,7 @@ impl ComparableRange {
         }
     }
 
-    // Rust's `RangeBounds::contains`, for callers.
+    // Rust's `RangeBounds::contains`.
     pub fn contains(self, start_key: &[u8], end_key: &[u8], key: &[u8]) -> bool
         ensures { result ≡ holds (range_of self start_key.now end_key.now) key.now }
     {
