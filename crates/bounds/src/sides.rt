@@ -1,7 +1,7 @@
 // Sides: which of two ranges gives a start or an end, and what intersect and union answer by it.
-ghost use Rattle.std.specs.Prelude.{◌≡◌};
+ghost use Rattle.std.specs.Prelude.{◌≡◌, cond, int_lt, pos};
 ghost use Rattle.kinds.specs.Bounds.{bound};
-ghost use Rattle.bounds.specs.Sides.{sided, other_side, greater, max_start, min_end, max_end, swap_sides};
+ghost use Rattle.bounds.specs.Sides.{sided, other_side, max_start, min_end, max_end, swap_sides};
 
 use kinds::kind::Kind;
 
@@ -35,7 +35,7 @@ impl Side {
 
 // The greater of two by the first's order against the second: of equals the second.
 fn greater(order: i8) -> Side
-    ensures { result ≡ greater order }
+    ensures { result ≡ cond (int_lt (pos 0) order) Side.First Side.Second }
 {
     if 0 < order { Side::First } else { Side::Second }
 }
