@@ -33,7 +33,7 @@ fn raised(prefix: &[u8]) -> MadeBound
 }
 
 // How long the increment of a prefix is: that of a prefix whose last byte is ff is the increment of what stands before
-// it; none where each byte is. It answers a number, since a made key in each frame of the recursion would take much stack.
+// it; none where every byte is ff. It answers a number, since a made key in each frame of the recursion would take much stack.
 fn increment_len(prefix: &[u8]) -> Option<usize>
     ensures { Raises prefix.now result }
 {

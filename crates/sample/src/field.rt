@@ -58,10 +58,7 @@ impl<'a> Fields<'a> {
     {
         let (tag, key) = self.field()?;
         let kind = Kind::try_from(tag).ok()?;
-        if kind.bounded() || key.is_empty() {
-            return Some(Bound { kind, key });
-        }
-        None
+        (kind.bounded() || key.is_empty()).then_some(Bound { kind, key })
     }
 
     pub fn range(&mut self) -> Option<Range<'a>>

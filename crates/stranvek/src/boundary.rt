@@ -1,6 +1,5 @@
 // What crosses the boundary, beside its calls: the structs that the host reads, and numbers for kinds, sides and statuses.
 ghost use Rattle.std.specs.Prelude.{◌≡◌};
-ghost use Rattle.ranges.specs.Made.{refusal_status};
 ghost use Rattle.stranvek.specs.Boundary.{kind_at, kinds_at, paired, key, made_keys};
 ghost use Rattle.stranvek.specs.Answers.{comparing, told, ranged, made_key};
 
@@ -75,7 +74,7 @@ impl From<Result<BytesRange, RangeError>> for NewRange {
                 end_kind: u8::from(range.inner.end),
             },
             Err(error) => NewRange {
-                status: status_of(error),
+                status: u8::from(error),
                 start_kind: UNBOUNDED,
                 end_kind: UNBOUNDED,
             },
@@ -123,7 +122,7 @@ impl From<Result<MadeBound, RangeError>> for MadeKey {
                 key: Key::from(bound),
             },
             Err(error) => MadeKey {
-                status: status_of(error),
+                status: u8::from(error),
                 key: Key::from(MadeBound::unbounded()),
             },
         }
@@ -152,7 +151,7 @@ impl From<Result<MadeRange, RangeError>> for MadeKeys {
             Err(error) => {
                 let nothing = Key::from(MadeBound::unbounded());
                 MadeKeys {
-                    status: status_of(error),
+                    status: u8::from(error),
                     start: nothing,
                     end: nothing,
                 }
@@ -172,15 +171,6 @@ pub fn range_at(start: u8, end: u8) -> ComparableRange
     ensures { result ≡ kinds_at start end }
 {
     ComparableRange::new(kind_at(start), kind_at(end))
-}
-
-fn status_of(error: RangeError) -> u8
-    ensures { result ≡ refusal_status error }
-{
-    match error {
-        RangeError::LongKey => 4,
-        RangeError::EmptyRange => 5,
-    }
 }
 
 // Two sides as the host reads them, each with its bound's kind: a function, since the kinds are no part of the sides.
