@@ -4,3 +4,4 @@ pub mod RangeOrder
 pub mod Meets
 pub mod Joins
 pub mod Points
+pub mod Greater

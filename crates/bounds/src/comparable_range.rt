@@ -7,7 +7,8 @@ ghost use Rattle.bounds.specs.Sides.{sided, max_start, min_end};
 use crate::sides::{Side, Sides, max_end, max_start, min_end};
 use kinds::kind::Kind;
 
-// A pair of bounds: the kinds, with the keys in slices beside them.
+// A pair of bounds: the kinds. The keys are no fields: they are lent beside it, and one is handed back as a part of its
+// slice.
 #[derive(Clone, Copy)]
 pub struct ComparableRange {
     pub start: Kind,
@@ -26,7 +27,7 @@ impl ComparableRange {
         ComparableRange { start, end }
     }
 
-    // The derived order: by start and then by end.
+    // The derived order, by start and then by end: a number, as each bound's.
     pub fn compare(
         self,
         start_key: &[u8],
@@ -37,13 +38,13 @@ impl ComparableRange {
     ) -> i8
         ensures { result ≡ sign (range_order (range_of self start_key.now end_key.now) (range_of other other_start_key.now other_end_key.now)) }
     {
-        let o = self
+        match self
             .start
-            .compare_start(start_key, other.start, other_start_key);
-        if o == 0 {
-            return self.end.compare_end(end_key, other.end, other_end_key);
+            .compare_start(start_key, other.start, other_start_key)
+        {
+            0 => self.end.compare_end(end_key, other.end, other_end_key),
+            order => order,
         }
-        o
     }
 
     pub fn intersect<'a>(
@@ -83,7 +84,7 @@ impl ComparableRange {
         side.pick(start_key, other_start_key)
     }
 
-    // The lesser end's key, likewise.
+    // The lesser end's key, likewise: a function of its own, since a caller lends the ends' keys alone.
     pub fn intersect_end<'a>(
         self,
         end_key: &'a [u8],

@@ -3,6 +3,8 @@ ghost use Rattle.std.specs.Prelude.{◌+◌, ◌≤◌};
 
 use crate::lists::{put_field, put_keys};
 use answers::{Answer, Outcome, Refusal};
+use kinds::kind::Kind;
+use layout::ID;
 use machine::Which;
 use manager::transaction_manager::{
     drop_txn, new_transaction, track_read_keys, track_read_range, track_recent_committed_txn,
@@ -12,14 +14,14 @@ use room::ceilings::SIZE;
 use std::io;
 use std::io::Stdout;
 
-// Place for 65 keys of 512 bytes, and for the number of one more.
+// Place for 65 keys of 512 bytes, and for the number of one more: an array, since the program has no heap.
 const LIST: usize = 33480;
 
 // Place for a bound of 513 bytes and an unbounded one.
 const BOUNDS: usize = 519;
 
 // The transaction that tracks.
-const A: u8 = 1;
+pub const A: u8 = 1;
 
 // What a call says.
 pub type Said = Result<Outcome, Refusal>;
@@ -30,26 +32,26 @@ pub fn say(out: &Stdout, asked: &str, said: Said) -> io::Result<()> {
 }
 
 pub fn begin(room: &mut [u8; SIZE], id: u8) -> Said {
-    new_transaction(room, &[id; 16])
+    new_transaction(room, &[id; ID])
 }
 
 pub fn commit(room: &mut [u8; SIZE], id: u8, seq: u64) -> Said {
-    track_recent_committed_txn(room, &[id; 16], seq)
+    track_recent_committed_txn(room, &[id; ID], seq)
 }
 
 pub fn leave(room: &mut [u8; SIZE], id: u8) -> Said {
-    drop_txn(room, &[id; 16])
+    drop_txn(room, &[id; ID])
 }
 
-// Adds keys of one size, numbered on from the first, to one of the two sets.
+// Adds keys of one size, numbered on from the first, to one of the two sets. The manager has a call for each, as the host has.
 pub fn track(room: &mut [u8; SIZE], which: Which, first: usize, count: usize, size: usize) -> Said
     requires { (first + count ≤ 65536) × (size ≤ 65535) }
 {
     let mut list = [b'a'; LIST];
     let n = put_keys(&mut list, first, count, size);
     match which {
-        Which::Writes => track_write_keys(room, &[A; 16], &list[..n]),
-        Which::Reads => track_read_keys(room, &[A; 16], &list[..n]),
+        Which::Writes => track_write_keys(room, &[A; ID], &list[..n]),
+        Which::Reads => track_read_keys(room, &[A; ID], &list[..n]),
     }
 }
 
@@ -61,12 +63,12 @@ pub fn batch(room: &mut [u8; SIZE], seq: u64, count: usize, size: usize) -> Said
     track_recent_committed_write_batch(room, &list[..n], seq)
 }
 
-// A range between two bounds, each by its tag and its key's size.
-pub fn range(room: &mut [u8; SIZE], start: (u8, usize), end: (u8, usize)) -> Said
+// A range between two bounds, each by its kind and its key's size.
+pub fn range(room: &mut [u8; SIZE], start: (Kind, usize), end: (Kind, usize)) -> Said
     requires { start.1 + end.1 ≤ 513 }
 {
     let mut bounds = [b'a'; BOUNDS];
-    let at = put_field(&mut bounds, 0, start.0, start.1);
-    let to = put_field(&mut bounds, at, end.0, end.1);
-    track_read_range(room, &[A; 16], &bounds[..to])
+    let at = put_field(&mut bounds, 0, u8::from(start.0), start.1);
+    let to = put_field(&mut bounds, at, u8::from(end.0), end.1);
+    track_read_range(room, &[A; ID], &bounds[..to])
 }

@@ -1,6 +1,6 @@
 // The cases, each group on a room made fresh at 7.
-use crate::asks::{batch, begin, commit, leave, range, say, track};
-use fields::{EXCLUDED, INCLUDED, UNBOUNDED};
+use crate::asks::{A, batch, begin, commit, leave, range, say, track};
+use kinds::kind::Kind;
 use machine::Which;
 use manager::transaction_manager::{check_has_conflict, min_active_seq, new, new_transaction};
 use room::ceilings::{ACTIVE_LIMIT, ENTRY_LIMIT, SIZE};
@@ -10,12 +10,10 @@ use std::io::Stdout;
 // One byte less than the published size.
 const SHORT: usize = SIZE - 1;
 
-const A: u8 = 1;
-
 const B: u8 = 2;
 
 // A range without a start, or without an end.
-const WITHOUT: (u8, usize) = (UNBOUNDED, 0);
+const WITHOUT: (Kind, usize) = (Kind::Unbounded, 0);
 
 pub fn rooms(out: &Stdout) -> io::Result<()> {
     let mut short = [0u8; SHORT];
@@ -114,22 +112,22 @@ pub fn long_bounds(out: &Stdout, room: &mut [u8; SIZE]) -> io::Result<()> {
     say(
         out,
         "range from a key of 512 bytes",
-        range(room, (INCLUDED, 512), WITHOUT),
+        range(room, (Kind::Included, 512), WITHOUT),
     )?;
     say(
         out,
         "range from a key of 513 bytes",
-        range(room, (INCLUDED, 513), WITHOUT),
+        range(room, (Kind::Included, 513), WITHOUT),
     )?;
     say(
         out,
         "range to a key of 512 bytes",
-        range(room, WITHOUT, (EXCLUDED, 512)),
+        range(room, WITHOUT, (Kind::Excluded, 512)),
     )?;
     say(
         out,
         "range to a key of 513 bytes",
-        range(room, WITHOUT, (EXCLUDED, 513)),
+        range(room, WITHOUT, (Kind::Excluded, 513)),
     )?;
     Ok(())
 }
@@ -185,7 +183,11 @@ pub fn marks(out: &Stdout, room: &mut [u8; SIZE]) -> io::Result<()> {
         track(room, Which::Writes, 1024, 1, 2),
     )?;
     say(out, "read, mark 1025", track(room, Which::Reads, 0, 1, 2))?;
-    say(out, "range, mark 1025", range(room, (INCLUDED, 1), WITHOUT))?;
+    say(
+        out,
+        "range, mark 1025",
+        range(room, (Kind::Included, 1), WITHOUT),
+    )?;
     say(
         out,
         "write, 1024 keys that are in the set",
@@ -215,7 +217,7 @@ pub fn key_bytes(out: &Stdout, room: &mut [u8; SIZE]) -> io::Result<()> {
     say(
         out,
         "range to a key of 1 byte, 32769 in all",
-        range(room, WITHOUT, (EXCLUDED, 1)),
+        range(room, WITHOUT, (Kind::Excluded, 1)),
     )?;
     say(
         out,

@@ -2,7 +2,7 @@
 use Prim.Native.Nat.{ℕ, suc, ◌+◌, ◌-◌, ◌≤◌, ◌<◌}
 use mathlib.Core.Path.{◌≡◌, refl, sym, ap, ◌∙◌}
 use mathlib.Core.Bool.{cond}
-use mathlib.Core.List.{List, ◌∷◌}
+use mathlib.Core.List.{List, [], ◌∷◌}
 use mathlib.Core.Option.{none}
 use native.Mathlib.Omega.{arith}
 use borrow.Author.Tests.{le-leb, lt-leb}
@@ -10,12 +10,17 @@ use lib.Dec.{leb}
 use lib.ListN.{length, take, drop, get_or, length-drop, drop_of_length-le}
 use borrow.Author.Rules.{part_to_end}
 use lib.Seq.{slice, get_or-drop, drop-cons, drop-drop, drop_at, take-add, length-take-le}
+use Rattle.std.specs.Int.{from_be_bytes, w16}
 use Rattle.fields.specs.Fields.{field_head, size_of, field, before, fields}
 use Rattle.fields.specs.Forms.{ItemAt, EndAt, CutAt, size_at}
 use Rattle.fields.proofs.Steps.{fields_short, fields_step}
 
 pub byte : (bs : List ℕ) (i j : ℕ) → j ≡ suc i → i < length bs → drop i bs ≡ get_or bs i 0 ∷ drop j bs
 byte bs i j e h = rw e (drop-cons bs i 0 h)
+
+-- the two bytes of a length, as the library reads them
+pub size_read : (h l : ℕ) → from_be_bytes w16 (h ∷ l ∷ []) ≡ size_of h l
+size_read h l = omega arith
 
 -- what stands from a place on, as a slice to the end
 abbrev pub from_on : List ℕ → ℕ → List ℕ

@@ -1,13 +1,13 @@
 // Fields: a one-byte tag, a two-byte big-endian length and a payload; key lists and bounds, which are made of them.
 #![tactic(auto)]
 
-ghost use Rattle.std.specs.Prelude.{◌≡◌, ⊤};
+ghost use Rattle.std.specs.Prelude.{◌≡◌};
 ghost use Rattle.fields.specs.Fields.{key_list};
 ghost use Rattle.fields.specs.Forms.{FieldIs, NextIs, form_of, BoundFieldIs, BoundsAre};
 ghost use Rattle.fields.specs.declared.FormError.{FormError};
 
 use keys::KEY_LIMIT;
-use kinds::kind::{Kind, UnknownTag};
+use kinds::kind::Kind;
 
 // The tag of a key.
 pub const KEY: u8 = 0x4b;
@@ -36,14 +36,6 @@ pub struct Field {
 #[derive(Clone, Copy)]
 pub struct Malformed;
 
-impl From<UnknownTag> for Malformed {
-    ghost from_gives = { λ _ _. ⊤ };
-
-    fn from(_tag: UnknownTag) -> Malformed {
-        Malformed
-    }
-}
-
 // The field at a place, none where the bytes end there.
 pub fn field_at(bytes: &[u8], at: usize) -> Result<Option<Field>, Malformed>
     ensures { FieldIs bytes.now at result }
@@ -54,7 +46,7 @@ pub fn field_at(bytes: &[u8], at: usize) -> Result<Option<Field>, Malformed>
     let [tag, high, low, rest @ ..] = &bytes[at..] else {
         return Err(Malformed);
     };
-    let n = usize::from(*high) * 256 + usize::from(*low);
+    let n = usize::from(u16::from_be_bytes([*high, *low]));
     if rest.len() < n {
         return Err(Malformed);
     }
@@ -124,7 +116,9 @@ fn bound_at(bytes: &[u8], at: usize) -> Result<BoundPlace, Malformed>
     ensures { BoundFieldIs bytes.now at result }
 {
     let field = field_at(bytes, at)?.ok_or(Malformed)?;
-    let kind = Kind::try_from(field.tag)?;
+    let Ok(kind) = Kind::try_from(field.tag) else {
+        return Err(Malformed);
+    };
     let key = field.payload;
     if !kind.bounded() && key.from < key.to {
         return Err(Malformed);

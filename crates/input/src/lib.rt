@@ -16,6 +16,7 @@ pub fn read_full<R: Read>(input: &mut R, bytes: &mut [u8]) -> io::Result<usize>
     ensures len { length bytes.new ≡ length bytes.old }
 {
     let mut done = 0;
+    // `read_exact` refuses an input that ends early, and `read_to_end` wants a heap.
     while done < bytes.len() {
         let n = input.read(&mut bytes[done..])?;
         if n == 0 {

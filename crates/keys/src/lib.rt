@@ -7,7 +7,7 @@ ghost use Rattle.keys.specs.Order.{order, sign, is_same, starts_with};
 // A stored key has at most this many bytes.
 pub const KEY_LIMIT: usize = 512;
 
-// Where a stands against b: -1 before it, 0 at it, 1 after it.
+// Where a stands against b: -1 before it, 0 at it, 1 after it; no `Ordering`, since the number crosses the boundary as it is.
 pub fn compare(a: &[u8], b: &[u8]) -> i8
     ensures { result ≡ sign (order a.now b.now) }
 {

@@ -1,3 +1,4 @@
 pub mod Ties
 pub mod Cuts
 pub mod BoundOrder
+pub mod Admits

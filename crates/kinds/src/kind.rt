@@ -9,12 +9,13 @@ pub const INCLUDED: u8 = 0x11;
 
 pub const EXCLUDED: u8 = 0x12;
 
-// What kind of bound a key makes: Rust's `Bound`, with the key in a slice beside it.
+// What kind of bound a key makes: Rust's `Bound`, with the key in a slice beside it. The variants stand in the order of
+// starts at equal keys.
 #[derive(Clone, Copy, PartialEq, Eq, PartialOrd, Ord)]
 pub enum Kind {
-    Unbounded,
-    Included,
-    Excluded,
+    Unbounded = 0x10,
+    Included = 0x11,
+    Excluded = 0x12,
 }
 
 impl Kind {
@@ -48,71 +49,73 @@ impl Kind {
         }
     }
 
-    // Where a start of this kind stands against one of the other at equal keys.
+    // Where a start of this kind stands against one of the other at equal keys: a number, so that an end's tie is its
+    // negation.
     fn tie(self, other: Kind) -> i8
         ensures { result ≡ sign (tie self other) }
     {
         self.cmp(&other) as i8
     }
 
+    // A number, as `keys::compare` answers. Starts and ends have an order each; what they share is `compare_bound`.
     pub fn compare_start(self, key: &[u8], other: Kind, other_key: &[u8]) -> i8
         ensures { result ≡ sign (start_order (bound self key.now) (bound other other_key.now)) }
     {
         self.compare_bound(key, other, other_key, true)
     }
 
+    // The same of two ends.
     pub fn compare_end(self, key: &[u8], other: Kind, other_key: &[u8]) -> i8
         ensures { result ≡ sign (end_order (bound self key.now) (bound other other_key.now)) }
     {
         self.compare_bound(key, other, other_key, false)
     }
 
-    // Two bounds of one sort, both starts or both ends: the Rust's `cmp_bound`.
+    // Two bounds of one sort, both starts or both ends: the Rust's `cmp_bound`, as a number like its parts.
     fn compare_bound(self, key: &[u8], other: Kind, other_key: &[u8], start: bool) -> i8
         ensures { result ≡ sign (bound_order start (bound self key.now) (bound other other_key.now)) }
     {
-        let t = self.tie_of(other, start);
-        if !self.bounded() {
-            return t;
+        let tie = self.tie_of(other, start);
+        if !self.bounded() || !other.bounded() {
+            return tie;
         }
-        if !other.bounded() {
-            return t;
+        match keys::compare(key, other_key) {
+            0 => tie,
+            order => order,
         }
-        let o = keys::compare(key, other_key);
-        if o == 0 { t } else { o }
     }
 
-    // An end's tie is the negated start's tie.
+    // An end's tie is the negated start's tie; the flag is the one that the definition `bound_order` takes.
     fn tie_of(self, other: Kind, start: bool) -> i8
         ensures { result ≡ sign (tie_of start self other) }
     {
-        let t = self.tie(other);
-        if start {
-            return t;
+        let tie = self.tie(other);
+        if start { tie } else { -tie }
+    }
+
+    // Whether two keys, the bound's and one that is asked for, stand as this kind has it.
+    fn admits(self, low: &[u8], high: &[u8]) -> bool
+        ensures { result ≡ start_admits (bound self low.now) high.now }
+    {
+        match self {
+            Kind::Unbounded => true,
+            Kind::Included => keys::compare(low, high) <= 0,
+            Kind::Excluded => keys::compare(low, high) < 0,
         }
-        -t
     }
 
     // Whether a key meets this bound as a start.
     pub fn admits_from(self, bound_key: &[u8], key: &[u8]) -> bool
         ensures { result ≡ start_admits (bound self bound_key.now) key.now }
     {
-        match self {
-            Kind::Unbounded => true,
-            Kind::Included => keys::compare(bound_key, key) <= 0,
-            Kind::Excluded => keys::compare(bound_key, key) < 0,
-        }
+        self.admits(bound_key, key)
     }
 
     // Whether a key meets this bound as an end.
     pub fn admits_to(self, bound_key: &[u8], key: &[u8]) -> bool
         ensures { result ≡ end_admits (bound self bound_key.now) key.now }
     {
-        match self {
-            Kind::Unbounded => true,
-            Kind::Included => keys::compare(key, bound_key) <= 0,
-            Kind::Excluded => keys::compare(key, bound_key) < 0,
-        }
+        self.admits(key, bound_key)
     }
 }
 
@@ -139,10 +142,6 @@ impl From<Kind> for u8 {
     ghost from_gives = { λ kind tag. tag ≡ bound_tag kind };
 
     fn from(kind: Kind) -> Self {
-        match kind {
-            Kind::Unbounded => UNBOUNDED,
-            Kind::Included => INCLUDED,
-            Kind::Excluded => EXCLUDED,
-        }
+        kind as u8
     }
 }

@@ -9,6 +9,7 @@ use borrow.Author.Tests.{ne_eqb, eqb-true, eqb-false}
 use lib.Dec.{eqb}
 use lib.ListN.{length, get_or, take, set}
 use lib.Seq.{set_split, set-get_or, drop-length, take-take, get_or-take, length-take-le}
+use Rattle.std.specs.Prelude.{Option as Maybe, Some, None}
 use Rattle.ranges.specs.Prefixes.{increment, raised, Raises}
 
 pub increment_empty : (p : List ℕ) → length p ≡ 0 → increment p ≡ none
@@ -47,19 +48,19 @@ module _ (p : List ℕ) (h : 0 < length p) where
       ap increment last_apart ∙ increment_last (take (length p - 1) p) b n ∙ ap {B = Option (List ℕ)} some (sym (last_set (b + 1)))
 
 -- the length of an increment, as code finds it from the last byte on
-pub raises_shorter : (p : List ℕ) {n : ℕ} → 0 < length p → get_or p (length p - 1) 0 ≡ 255 → Raises (take (length p - 1) p) n → Raises p n
-raises_shorter p {n} h e r =
+pub raises_shorter : (p : List ℕ) (o : Maybe ℕ) → 0 < length p → get_or p (length p - 1) 0 ≡ 255 → Raises (take (length p - 1) p) o → Raises p o
+raises_shorter p None h e r = increment_shorter p h e ∙ r
+raises_shorter p (Some n) h e r =
     let l = length-take-le (length p - 1) p (omega arith) in
     let w = r.within in
+    let g = r.given in
     let m : n ≤ length p - 1 = omega arith in
     record {
       within = omega arith;
       same = ap increment (sym (take-take n (length p - 1) p m)) ∙ r.same ∙ sym (increment_shorter p h e);
-      raisable = λ z. rw (get_or-take (length p - 1) p (n - 1) 0 (omega arith)) at (r.raisable z);
+      given = r.given;
+      raisable = rw (get_or-take (length p - 1) p (n - 1) 0 (omega arith)) at r.raisable;
     }
-
-pub raised_none : {p : List ℕ} {n : ℕ} → Raises p n → n ≡ 0 → increment p ≡ none
-raised_none {p} r e = sym r.same ∙ increment_empty _ (ap (λ m. length (take m p)) e)
 
 -- the three ways of an increment by the first byte: a later byte is raised; this one is; there is none
 pub data Way (x : ℕ) (p : List ℕ) : Type 0 where

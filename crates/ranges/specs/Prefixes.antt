@@ -1,5 +1,5 @@
 -- Increments, prefix ranges and prefixes with a subrange, in document 01's words.
-use Rattle.std.specs.Prelude.{ℕ, ◌+◌, ◌-◌, ◌≤◌, ◌<◌, ◌≡◌, cond, List, [], ◌∷◌, ◌++◌, eqb, length, take, get_or}
+use Rattle.std.specs.Prelude.{ℕ, ◌+◌, ◌-◌, ◌≤◌, ◌<◌, ◌≡◌, cond, List, [], ◌∷◌, ◌++◌, eqb, length, take, get_or, Option as Maybe, Some, None}
 use Rattle.std.proofs.Math.Option.{Option, none, some}
 use Rattle.kinds.specs.Bounds.{Bound, unbounded, included, excluded}
 use Rattle.bounds.specs.Ranges.{Range, range, everything}
@@ -13,11 +13,17 @@ unfoldable pub increment : List ℕ → Option (List ℕ)
 increment [] = none
 increment (x ∷ xs) = raised x (increment xs)
 
--- the first n bytes have the same increment, by raising the last of them; none where n is 0
-pub record Raises (p : List ℕ) (n : ℕ) : Type 0 where
+-- the first n bytes have the same increment, by raising the last of them
+pub record RaisesAt (p : List ℕ) (n : ℕ) : Type 0 where
   pub within : n ≤ length p
   pub same : increment (take n p) ≡ increment p
-  pub raisable : 0 < n → get_or p (n - 1) 0 < 255
+  pub given : 0 < n
+  pub raisable : get_or p (n - 1) 0 < 255
+
+-- how many bytes that is, and none where there is no increment
+abbrev pub Raises : List ℕ → Maybe ℕ → Type 0
+Raises p (Some n) = RaisesAt p n
+Raises p None = increment p ≡ none
 
 -- the end that stands above all with a prefix: excluded at its increment, unbounded if there is none
 abbrev pub end_at : Option (List ℕ) → Bound

@@ -33,14 +33,14 @@ fn raised(prefix: &[u8]) -> MadeBound
 }
 
 // How long the increment of a prefix is: that of a prefix whose last byte is ff is the increment of what stands before
-// it; none at length zero. It answers a number, since a made key in each frame of the recursion would take much stack.
-fn increment_len(prefix: &[u8]) -> usize
+// it; none where every byte is ff. It answers a number, since a made key in each frame of the recursion would take much stack.
+fn increment_len(prefix: &[u8]) -> Option<usize>
     ensures { Raises prefix.now result }
 {
     match prefix {
-        [] => 0,
+        [] => None,
         [front @ .., 255] => increment_len(front),
-        _ => prefix.len(),
+        _ => Some(prefix.len()),
     }
 }
 
@@ -48,11 +48,10 @@ fn increment(prefix: &[u8]) -> MadeBound
     requires { length prefix.now ≤ key_limit }
     ensures { result ≡ made_of (end_at (increment prefix.now)) }
 {
-    let n = increment_len(prefix);
-    if n == 0 {
-        return MadeBound::unbounded();
+    match increment_len(prefix) {
+        None => MadeBound::unbounded(),
+        Some(n) => raised(&prefix[..n]),
     }
-    raised(&prefix[..n])
 }
 
 // The start of a prefix's subrange: unbounded is from the bare prefix on, which everything has if it is empty.
@@ -62,7 +61,7 @@ fn start_of(prefix: &[u8], start: Kind, suffix: &[u8]) -> Result<MadeBound, Rang
     if start.bounded() {
         return joined(start, prefix, suffix);
     }
-    if prefix.len() == 0 {
+    if prefix.is_empty() {
         return Ok(MadeBound::unbounded());
     }
     joined(Kind::Included, prefix, &[])
@@ -96,7 +95,7 @@ impl BytesRange {
         inner: ComparableRange::ALL,
     };
 
-    // Whether a pair of bounds makes a range: the source's assertion, with the added limit before it.
+    // The range of a pair of bounds, or why it is none: the source's assertion, with the added limit before it.
     pub fn new(start: Kind, start_key: &[u8], end: Kind, end_key: &[u8]) -> Result<Self, RangeError>
         ensures { result ≡ new_of (range (bound start start_key.now) (bound end end_key.now)) }
     {
@@ -104,12 +103,13 @@ impl BytesRange {
             return Err(RangeError::LongKey);
         }
         let inner = ComparableRange::new(start, end);
-        if inner.non_empty(start_key, end_key) {
-            return Ok(BytesRange { inner });
+        if !inner.non_empty(start_key, end_key) {
+            return Err(RangeError::EmptyRange);
         }
-        Err(RangeError::EmptyRange)
+        Ok(BytesRange { inner })
     }
 
+    // The whole key space by name, as document 01 has it, for callers.
     pub fn unbounded() -> Self
         ensures { (result.inner.start ≡ Kind.Unbounded) × (result.inner.end ≡ Kind.Unbounded) }
     {
@@ -151,7 +151,7 @@ impl BytesRange {
         }
     }
 
-    // Rust's `RangeBounds::contains`.
+    // Rust's `RangeBounds::contains`, for callers.
     pub fn contains(self, start_key: &[u8], end_key: &[u8], key: &[u8]) -> bool
         ensures { result ≡ holds (range_of self.inner start_key.now end_key.now) key.now }
     {

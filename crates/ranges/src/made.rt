@@ -3,7 +3,7 @@ ghost use Rattle.std.specs.Prelude.{◌≡◌, [], ◌++◌, ◌+◌, ◌≤◌,
 ghost use Rattle.std.proofs.Math.Seq.{paste};
 ghost use Rattle.keys.specs.Limit.{key_limit};
 ghost use Rattle.kinds.specs.Bounds.{bound, unbounded};
-ghost use Rattle.ranges.specs.Made.{Sized, padded, made_of, made_bound};
+ghost use Rattle.ranges.specs.Made.{Sized, refusal_status, padded, made_of, made_bound};
 
 use keys::KEY_LIMIT;
 use kinds::kind::Kind;
@@ -11,11 +11,19 @@ use kinds::kind::Kind;
 // Why a range or a key was not made: document 01's statuses 4 and 5.
 #[derive(Clone, Copy)]
 pub enum RangeError {
-    LongKey,
-    EmptyRange,
+    LongKey = 4,
+    EmptyRange = 5,
 }
 
-// A bound whose key was made: the first len of the bytes, with zeros after them.
+impl From<RangeError> for u8 {
+    ghost from_gives = { λ error status. status ≡ refusal_status error };
+
+    fn from(error: RangeError) -> Self {
+        error as u8
+    }
+}
+
+// A bound whose key was made: the first len of the bytes, with zeros after them as the host gets them, and no heap.
 #[derive(Clone, Copy)]
 pub struct MadeBound {
     pub kind: Kind,

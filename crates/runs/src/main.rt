@@ -15,7 +15,7 @@ use std::io::Stdout;
 
 const INPUT_LIMIT: usize = 262144;
 
-// One byte more than the limit, so that a longer input shows.
+// One byte more than the limit, so that a longer input shows. An array, since the program has no heap.
 const INPUT_ROOM: usize = INPUT_LIMIT + 1;
 
 // No record of a script has this tag: a run begins with it.
@@ -24,7 +24,7 @@ const RUN: u8 = 0;
 // The tag, and the number that the run's room is made fresh at.
 const RUN_SIZE: usize = 9;
 
-// Where the runs do not read.
+// The line that says where the runs do not read.
 fn say_bad(out: &Stdout, at: usize) -> io::Result<()> {
     println!(out; "bad {at}")
 }

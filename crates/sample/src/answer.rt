@@ -91,10 +91,7 @@ fn put_point(out: &Stdout, r: Range<'_>) -> io::Result<()> {
 
 // A refusal is the whole line.
 fn put_refusal(out: &Stdout, error: RangeError) -> io::Result<()> {
-    match error {
-        RangeError::LongKey => println!(out; "4 -"),
-        RangeError::EmptyRange => println!(out; "5 -"),
-    }
+    println!(out; "{} -", u8::from(error))
 }
 
 fn put_new(out: &Stdout, r: Range<'_>) -> io::Result<()> {

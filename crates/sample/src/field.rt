@@ -24,7 +24,7 @@ impl Range<'_> {
     }
 }
 
-// Where the next field begins.
+// The fields that are not read yet: `at` is where the next begins.
 #[derive(Drop)]
 pub struct Fields<'a> {
     pub queries: &'a [u8],
@@ -58,10 +58,7 @@ impl<'a> Fields<'a> {
     {
         let (tag, key) = self.field()?;
         let kind = Kind::try_from(tag).ok()?;
-        if kind.bounded() || key.is_empty() {
-            return Some(Bound { kind, key });
-        }
-        None
+        (kind.bounded() || key.is_empty()).then_some(Bound { kind, key })
     }
 
     pub fn range(&mut self) -> Option<Range<'a>>

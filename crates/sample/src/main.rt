@@ -14,7 +14,7 @@ mod text;
 
 const QUERY_LIMIT: usize = 60000;
 
-// One byte more than the limit, so that a longer input shows.
+// One byte more than the limit, so that a longer input shows. An array, since the program has no heap.
 const QUERY_ROOM: usize = QUERY_LIMIT + 1;
 
 // A query that does not read ends the run, so that a damaged sample can't pass.

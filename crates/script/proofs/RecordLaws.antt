@@ -1,7 +1,8 @@
 -- The record at a place, by the bytes that stand there.
+use Rattle.std.specs.Prelude.{Result, Ok, Err, is_err}
 use Prim.Native.Nat.{ℕ, suc, ◌+◌, ◌-◌, ◌≤◌, ◌<◌}
 use mathlib.Core.Path.{◌≡◌, refl, ap, ◌∙◌}
-use mathlib.Core.Bool.{Bool, true, false, cond, ◌&&◌}
+use mathlib.Core.Bool.{Bool, true, false, cond, ◌&&◌, true≢false, false≢true}
 use mathlib.Core.List.{List, [], ◌∷◌}
 use native.Mathlib.Omega.{arith}
 use borrow.Author.Tests.{le-leb, lt-leb, leb-true}
@@ -13,9 +14,10 @@ use Rattle.fields.specs.Fields.{field_head, size_of, field, cut, first}
 use Rattle.fields.proofs.Reading.{byte, from_on, byte_from}
 use Rattle.script.specs.Stream.{Next, known, record_of, next, whole, more, stop, payload_limit}
 use Rattle.script.specs.declared.records.Tag.{Tag}
-use Rattle.script.specs.Records.{tag_number, WholeAt, MoreAt, StopAt}
+use Rattle.script.specs.declared.records.UnknownTag.{UnknownTag}
+use Rattle.script.specs.Records.{tag_number, TagIs, WholeAt, MoreAt, StopAt}
 
-pub known_number : (t : Tag) → known (tag_number t) ≡ true
+known_number : (t : Tag) → known (tag_number t) ≡ true
 known_number Tag.Begin = refl
 known_number Tag.Writes = refl
 known_number Tag.Reads = refl
@@ -25,6 +27,15 @@ known_number Tag.Commit = refl
 known_number Tag.Batch = refl
 known_number Tag.Drop = refl
 known_number Tag.Minimum = refl
+
+-- a tag is known where it is read as one of the nine, and only there
+pub known_read : (n : ℕ) (r : Result Tag UnknownTag) → TagIs n r → is_err r ≡ false → known n ≡ true
+known_read n (Ok t) e h = ap known e ∙ known_number t
+known_read n (Err u) e h = absurd (true≢false h)
+
+pub unknown_read : (n : ℕ) (r : Result Tag UnknownTag) → TagIs n r → is_err r ≡ true → known n ≡ false
+unknown_read n (Ok t) e h = absurd (false≢true h)
+unknown_read n (Err u) e h = e
 
 -- a record whose head is whole and has a known tag, n being the length that it says
 abbrev pub sized : ℕ → ℕ → List ℕ → Next
@@ -71,14 +82,14 @@ module _ (bs : List ℕ) (at : ℕ) where
     pub tag_unknown : known (get_or bs at 0) ≡ false → StopAt bs at
     tag_unknown e = record { reads = ap next tag_first ∙ next_unknown (get_or bs at 0) (drop (suc at) bs) e }
 
-    pub head_cut : (t : Tag) → get_or bs at 0 ≡ tag_number t → length bs - at < field_head → MoreAt bs at
-    head_cut t e h =
+    pub head_cut : known (get_or bs at 0) ≡ true → length bs - at < field_head → MoreAt bs at
+    head_cut e h =
         record {
           few = omega arith;
-          reads = ap next tag_first ∙ next_few (get_or bs at 0) (drop (suc at) bs) (ap known e ∙ known_number t) (rw length-drop (omega arith));
+          reads = ap next tag_first ∙ next_few (get_or bs at 0) (drop (suc at) bs) e (rw length-drop (omega arith));
         }
 
-  module _ (h l : ℕ) (t : Tag) (room : at + field_head ≤ length bs) (e : get_or bs at 0 ≡ tag_number t) (high : h ≡ get_or (from_on bs at) 1 0) (low : l ≡ get_or (from_on bs at) 2 0) where
+  module _ (h l : ℕ) (room : at + field_head ≤ length bs) (e : known (get_or bs at 0) ≡ true) (high : h ≡ get_or (from_on bs at) 1 0) (low : l ≡ get_or (from_on bs at) 2 0) where
     head_read : next (drop at bs) ≡ sized (get_or bs at 0) (size_of h l) (drop (at + field_head) bs)
     head_read =
         rw (
@@ -86,7 +97,7 @@ module _ (bs : List ℕ) (at : ℕ) where
           byte bs (at + 1) (at + 2) (omega arith) (omega arith),
           byte bs (at + 2) (at + field_head) (omega arith) (omega arith),
           next_headed (get_or bs at 0) (get_or bs (at + 1) 0) (get_or bs (at + 2) 0) (drop (at + field_head) bs),
-          ap known e ∙ known_number t,
+          e,
           high ∙ byte_from bs at 1,
           low ∙ byte_from bs at 2,
         )

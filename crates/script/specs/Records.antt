@@ -2,9 +2,9 @@
 use Rattle.std.specs.Prelude.{ℕ, ◌+◌, ◌≤◌, ◌<◌, ◌≡◌, false, List, length, drop, Option, Some, None, Result, Ok, Err}
 use Rattle.std.proofs.Math.Seq.{slice}
 use Rattle.fields.specs.Fields.{field_head}
+use Rattle.fields.specs.declared.Field.{Field}
 use Rattle.script.specs.declared.records.Tag.{Tag}
 use Rattle.script.specs.declared.records.UnknownTag.{UnknownTag}
-use Rattle.script.specs.declared.records.Record.{Record}
 use Rattle.script.specs.declared.records.Stop.{Stop}
 use Rattle.script.specs.Stream.{known, next, whole, more, stop, payload_limit}
 
@@ -39,7 +39,7 @@ pub record MoreAt (bs : List ℕ) (at : ℕ) : Type 0 where
 pub record StopAt (bs : List ℕ) (at : ℕ) : Type 0 where
   pub reads : next (drop at bs) ≡ stop
 
-abbrev pub NextRecordIs : List ℕ → ℕ → Result (Option Record) Stop → Type 0
+abbrev pub NextRecordIs : List ℕ → ℕ → Result (Option Field) Stop → Type 0
 NextRecordIs bs at (Ok (Some r)) = WholeAt bs at r.tag r.payload.from r.payload.to
 NextRecordIs bs at (Ok None) = MoreAt bs at
 NextRecordIs bs at (Err e) = StopAt bs at

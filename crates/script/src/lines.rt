@@ -24,7 +24,7 @@ fn put_decimal(out: &mut [u8], at: usize, n: u64) -> usize
     put_text(out, at, Buffer::new().format(n).as_bytes())
 }
 
-// The line of an answer: status, space, value in decimal.
+// The line of an answer: status, space, value in decimal. The bytes are lent, so it answers where the line ends.
 pub fn put_line(out: &mut [u8], at: usize, status: u8, value: u64) -> usize
     requires { at + line_limit ≤ length out.old }
     ensures { Put out.old at (line_of status value) result out.new }

@@ -1,8 +1,7 @@
 // Records, as their bytes arrive.
-ghost use Rattle.std.specs.Prelude.{⊤};
 ghost use Rattle.script.specs.Records.{TagIs, NextRecordIs};
 
-use fields::{FIELD_HEAD, Span};
+use fields::{FIELD_HEAD, Field, Span};
 
 pub const PAYLOAD_LIMIT: usize = 32768;
 
@@ -45,38 +44,25 @@ impl TryFrom<u8> for Tag {
     }
 }
 
-// A whole record, and where its payload stands.
-#[derive(Clone, Copy)]
-pub struct Record {
-    pub tag: u8,
-    pub payload: Span,
-}
-
 // The record ends the run.
 #[derive(Clone, Copy)]
 pub struct Stop;
 
-impl From<UnknownTag> for Stop {
-    ghost from_gives = { λ _ _. ⊤ };
-
-    fn from(_tag: UnknownTag) -> Stop {
-        Stop
-    }
-}
-
-// The record at a place, none where it is not whole yet. A head is refused as soon as its bytes say so, however few have come.
-pub fn next_record(bytes: &[u8], at: usize) -> Result<Option<Record>, Stop>
+// The record at a place, a field, none where it is not whole yet. A head is refused as soon as its bytes say so, however few have come.
+// Its tag stays a number, as `serve_record` takes any.
+pub fn next_record(bytes: &[u8], at: usize) -> Result<Option<Field>, Stop>
     ensures { NextRecordIs bytes.now at result }
 {
-    if bytes.len() <= at {
+    let Some(&tag) = bytes.get(at) else {
         return Ok(None);
+    };
+    if Tag::try_from(tag).is_err() {
+        return Err(Stop);
     }
-    let tag = bytes[at];
-    Tag::try_from(tag)?;
     let [_, high, low, rest @ ..] = &bytes[at..] else {
         return Ok(None);
     };
-    let n = usize::from(*high) * 256 + usize::from(*low);
+    let n = usize::from(u16::from_be_bytes([*high, *low]));
     if PAYLOAD_LIMIT < n {
         return Err(Stop);
     }
@@ -85,7 +71,7 @@ pub fn next_record(bytes: &[u8], at: usize) -> Result<Option<Record>, Stop>
     }
     let from = at + FIELD_HEAD;
     let to = from + n;
-    Ok(Some(Record {
+    Ok(Some(Field {
         tag,
         payload: Span { from, to },
     }))

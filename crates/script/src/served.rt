@@ -21,6 +21,7 @@ pub fn serve_record(room: &mut [u8], tag: u8, payload: &[u8]) -> Result<Outcome,
     let Ok(tag) = Tag::try_from(tag) else {
         return refuse(room);
     };
+    // What each record is, a line a tag; no table says with which arguments.
     match tag {
         Tag::Begin => new_transaction(room, payload),
         Tag::Writes => serve_keys(room, Which::Writes, payload),
@@ -48,7 +49,7 @@ fn id_end(payload: &[u8]) -> usize
     payload.len().min(ID)
 }
 
-// The keys of one of the two sets.
+// The keys of one of the two sets. The manager has a call for each, as the host has.
 fn serve_keys(room: &mut [u8], which: Which, payload: &[u8]) -> Result<Outcome, Refusal>
     ensures { Served room.old (on (keys_of which payload.now)) (status_of result) (value_of result) room.new }
 {
@@ -73,7 +74,7 @@ fn serve_commit(room: &mut [u8], payload: &[u8]) -> Result<Outcome, Refusal>
         return refuse(room);
     }
     let seq = read_eight(payload, ID);
-    track_recent_committed_txn(room, &payload[0..ID], seq)
+    track_recent_committed_txn(room, &payload[..ID], seq)
 }
 
 fn serve_batch(room: &mut [u8], payload: &[u8]) -> Result<Outcome, Refusal>

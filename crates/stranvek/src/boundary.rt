@@ -1,6 +1,5 @@
 // What crosses the boundary, beside its calls: the structs that the host reads, and numbers for kinds, sides and statuses.
 ghost use Rattle.std.specs.Prelude.{◌≡◌};
-ghost use Rattle.ranges.specs.Made.{refusal_status};
 ghost use Rattle.stranvek.specs.Boundary.{kind_at, kinds_at, paired, key, made_keys};
 ghost use Rattle.stranvek.specs.Answers.{comparing, told, ranged, made_key};
 
@@ -11,6 +10,7 @@ use kinds::kind::{Kind, UNBOUNDED};
 use ranges::bytes_range::{BytesRange, MadeRange};
 use ranges::made::{MadeBound, RangeError};
 
+// An order as the host reads it; the status is always 0.
 #[repr(C)]
 #[derive(Clone, Copy)]
 pub struct Compared {
@@ -26,6 +26,7 @@ impl From<i8> for Compared {
     }
 }
 
+// A yes or no as the host reads it; the status is always 0.
 #[repr(C)]
 #[derive(Clone, Copy)]
 pub struct Told {
@@ -41,6 +42,7 @@ impl From<bool> for Told {
     }
 }
 
+// Two sides as the host reads them: C has no `Option`, so `given` says whether the rest counts.
 #[repr(C)]
 #[derive(Clone, Copy)]
 pub struct Pair {
@@ -52,6 +54,7 @@ pub struct Pair {
     pub end_side: u8,
 }
 
+// A range or its refusal as the host reads it: C has no `Result`, so the status says which.
 #[repr(C)]
 #[derive(Clone, Copy)]
 pub struct NewRange {
@@ -71,7 +74,7 @@ impl From<Result<BytesRange, RangeError>> for NewRange {
                 end_kind: u8::from(range.inner.end),
             },
             Err(error) => NewRange {
-                status: status_of(error),
+                status: u8::from(error),
                 start_kind: UNBOUNDED,
                 end_kind: UNBOUNDED,
             },
@@ -79,6 +82,7 @@ impl From<Result<BytesRange, RangeError>> for NewRange {
     }
 }
 
+// A made bound as the host reads it, with zeros after the key.
 #[repr(C)]
 #[derive(Clone, Copy)]
 pub struct Key {
@@ -100,6 +104,7 @@ impl From<MadeBound> for Key {
     }
 }
 
+// A made bound or its refusal, told by the status.
 #[repr(C)]
 #[derive(Clone, Copy)]
 pub struct MadeKey {
@@ -117,13 +122,14 @@ impl From<Result<MadeBound, RangeError>> for MadeKey {
                 key: Key::from(bound),
             },
             Err(error) => MadeKey {
-                status: status_of(error),
+                status: u8::from(error),
                 key: Key::from(MadeBound::unbounded()),
             },
         }
     }
 }
 
+// Two made bounds or their refusal, told by the status.
 #[repr(C)]
 #[derive(Clone, Copy)]
 pub struct MadeKeys {
@@ -145,7 +151,7 @@ impl From<Result<MadeRange, RangeError>> for MadeKeys {
             Err(error) => {
                 let nothing = Key::from(MadeBound::unbounded());
                 MadeKeys {
-                    status: status_of(error),
+                    status: u8::from(error),
                     start: nothing,
                     end: nothing,
                 }
@@ -167,15 +173,7 @@ pub fn range_at(start: u8, end: u8) -> ComparableRange
     ComparableRange::new(kind_at(start), kind_at(end))
 }
 
-fn status_of(error: RangeError) -> u8
-    ensures { result ≡ refusal_status error }
-{
-    match error {
-        RangeError::LongKey => 4,
-        RangeError::EmptyRange => 5,
-    }
-}
-
+// Two sides as the host reads them, each with its bound's kind: a function, since the kinds are no part of the sides.
 pub fn pair_of(sides: Option<Sides>, a: ComparableRange, b: ComparableRange) -> Pair
     ensures { result ≡ paired sides a.start b.start a.end b.end }
 {

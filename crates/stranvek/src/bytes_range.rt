@@ -1,5 +1,6 @@
 // The boundary: each call of the range part under a C name, on numbers and byte slices. An answer is a struct by value
 // that begins with the status.
+// C takes a bound as a number and a slice, so calls on two ranges have the same eight parameters.
 ghost use Rattle.std.specs.Prelude.{◌≡◌};
 ghost use Rattle.keys.specs.Order.{order, is_same, starts_with};
 ghost use Rattle.kinds.specs.Bounds.{start_order, end_order};

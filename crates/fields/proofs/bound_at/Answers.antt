@@ -14,15 +14,14 @@ pub returns-in_err-field : goal.returns-in_err-field
 returns-in_err-field c =
     by_err (BoundFieldIs c.args.bytes.now c.args.at) _ c.from_residual-in_err-field.ensures.0 λ e. bounds_end (rw c.in_err-field.ensures.ok_part at c.in_ok-field_at.ensures)
 
-pub returns-in_err-kind : goal.returns-in_err-kind
-returns-in_err-kind c =
-    by_err (BoundFieldIs c.args.bytes.now c.args.at) _ c.from_residual-in_err-kind.ensures.0 λ e. tag_unknown (rw c.in_ok-field.ensures.ok_part at c.in_ok-field_at.ensures) c.in_err-kind.ensures.1
+pub returns-in_default : goal.returns-in_default
+returns-in_default c = tag_unknown (rw c.in_ok-field.ensures.ok_part at c.in_ok-field_at.ensures) c.in_default.ensures.1
 
 pub returns-then-key : goal.returns-then-key
 returns-then-key c =
-    unbounded_full (rw c.in_ok-field.ensures.ok_part at c.in_ok-field_at.ensures) c.in_ok-kind.kind c.in_ok-kind.ensures (sym c.if-not-bounded.ensures) c.if-key.true
+    unbounded_full (rw c.in_ok-field.ensures.ok_part at c.in_ok-field_at.ensures) c.in-Ok.kind c.in-Ok.ensures (sym c.if-not-bounded.ensures) c.if-key.true
 
 pub returns : goal.returns
 returns c =
-    bound_here (rw c.in_ok-field.ensures.ok_part at c.in_ok-field_at.ensures) c.in_ok-kind.kind c.in_ok-kind.ensures
+    bound_here (rw c.in_ok-field.ensures.ok_part at c.in_ok-field_at.ensures) c.in-Ok.kind c.in-Ok.ensures
     λ b. elim c.else-not-bounded.branch [ else-not-bounded-via-then-not-bounded+else-key w ↦ w.if-key.false | else-not-bounded-via-else-not-bounded w ↦ absurd (true≢false (w.if-not-bounded.ensures ∙ b)) ]

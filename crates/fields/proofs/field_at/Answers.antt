@@ -1,6 +1,6 @@
 -- The head and the payload are there, or the bytes end before, within or behind the head.
-use Rattle.std.proofs.Common.{ℕ, refl, arith, length-take, length-drop}
-use Rattle.fields.proofs.Reading.{ends_at, head_cut, payload_cut, field_here}
+use Rattle.std.proofs.Common.{ℕ, refl, ◌∙◌, arith, length-take, length-drop}
+use Rattle.fields.proofs.Reading.{size_read, ends_at, head_cut, payload_cut, field_here}
 use Rattle.fields.proofs.field_at.Goals as goal
 
 pub returns-then-bytes-at : goal.returns-then-bytes-at
@@ -11,10 +11,10 @@ returns-in_default c = head_cut _ _ (omega arith) (omega (arith, length-take {A 
 
 pub returns-then-rest-n : goal.returns-then-rest-n
 returns-then-rest-n c =
-    payload_cut _ _ _ _ _ (omega (arith, length-take {A = ℕ}, length-drop {A = ℕ})) refl c.from.ensures c.from-2.ensures
-    (omega (arith, length-take {A = ℕ}, length-drop {A = ℕ}))
+    let e = c.from-n.ensures ∙ c.from_be_bytes.ensures ∙ size_read _ _ in
+    payload_cut _ _ _ _ _ (omega (arith, length-take {A = ℕ}, length-drop {A = ℕ})) refl refl refl (omega (arith, e, length-take {A = ℕ}, length-drop {A = ℕ}))
 
 pub returns : goal.returns
 returns c =
-    field_here _ _ _ _ _ (omega (arith, length-take {A = ℕ}, length-drop {A = ℕ})) refl c.from.ensures c.from-2.ensures
-    (omega (arith, length-take {A = ℕ}, length-drop {A = ℕ}))
+    let e = c.from-n.ensures ∙ c.from_be_bytes.ensures ∙ size_read _ _ in
+    rw e (field_here _ _ _ _ _ (omega (arith, length-take {A = ℕ}, length-drop {A = ℕ})) refl refl refl (omega (arith, e, length-take {A = ℕ}, length-drop {A = ℕ})))

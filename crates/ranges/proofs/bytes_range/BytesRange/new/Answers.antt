@@ -14,15 +14,15 @@ returns-then-too_long c = elim c.then-too_long.branch [
 ]
 
 -- past the two tests neither key is over the limit, and emptiness is judged
-pub returns-then-non_empty : goal.returns-then-non_empty
-returns-then-non_empty c = let x = c.args in
+pub returns-then-not-non_empty : goal.returns-then-not-non_empty
+returns-then-not-non_empty c = let x = c.args in
     let n = c.new-inner.ensures in
-    (λ i. Ok (record { inner = record { start = (n.0 ∙ kind_back x.start x.start_key.now) i; end = (n.1 ∙ kind_back x.end x.end_key.now) i } }))
-    ∙ new_by (range (bound x.start x.start_key.now) (bound x.end x.end_key.now)) (sym c.too_long.ensures ∙ c.if-too_long.false) (sym c.too_long-else-too_long.ensures ∙ c.if-too_long-2.false)
-    (sym (c.non_empty.ensures ∙ (λ i. not_empty_pair (bound (n.0 i) x.start_key.now) (bound (n.1 i) x.end_key.now))) ∙ c.if-non_empty.true)
+    new_by (range (bound x.start x.start_key.now) (bound x.end x.end_key.now)) (sym c.too_long.ensures ∙ c.if-too_long.false) (sym c.too_long-else-too_long.ensures ∙ c.if-too_long-2.false)
+    (sym (c.non_empty.ensures ∙ (λ i. not_empty_pair (bound (n.0 i) x.start_key.now) (bound (n.1 i) x.end_key.now))) ∙ c.if-not-non_empty.true)
 
 pub returns : goal.returns
 returns c = let x = c.args in
     let n = c.new-inner.ensures in
-    new_by (range (bound x.start x.start_key.now) (bound x.end x.end_key.now)) (sym c.too_long.ensures ∙ c.if-too_long.false) (sym c.too_long-else-too_long.ensures ∙ c.if-too_long-2.false)
-    (sym (c.non_empty.ensures ∙ (λ i. not_empty_pair (bound (n.0 i) x.start_key.now) (bound (n.1 i) x.end_key.now))) ∙ c.if-non_empty.false)
+    (λ i. Ok (record { inner = record { start = (n.0 ∙ kind_back x.start x.start_key.now) i; end = (n.1 ∙ kind_back x.end x.end_key.now) i } }))
+    ∙ new_by (range (bound x.start x.start_key.now) (bound x.end x.end_key.now)) (sym c.too_long.ensures ∙ c.if-too_long.false) (sym c.too_long-else-too_long.ensures ∙ c.if-too_long-2.false)
+    (sym (c.non_empty.ensures ∙ (λ i. not_empty_pair (bound (n.0 i) x.start_key.now) (bound (n.1 i) x.end_key.now))) ∙ c.if-not-non_empty.false)
