@@ -168,7 +168,7 @@ class Runs(unittest.TestCase):
 
     def test_a_method_has_the_name_that_the_checker_gives_it(self):
         for line, name in (("impl Kind {", "Kind::f"), ("impl TryFrom<u8> for Kind {", "KindTryFromU8::f"), ("impl From<Kind> for u8 {", "U8FromKind::f"),
-                           ("impl Chained for Keys {", "KeysChained::f"), ("impl From<fields::Malformed> for Refusal {", "RefusalFromMalformed::f"),
+                           ("impl Chained for Keys {", "KeysChained::f"), ("impl From<fields::Malformed> for Refusal {", "RefusalFromFieldsMalformed::f"),
                            ("impl From<Result<Outcome, Refusal>> for Answer {", "AnswerFromResultOutcomeRefusal::f"), ("pub trait Chained {", "f"),
                            ("impl<'a> Fields<'a> {", "Fields::f"), ("impl Range<'_> {", "Range::f"), ("impl fmt::Display for Hex<'_> {", "HexDisplay::f")):
             self.assertEqual([it[1] for it in heads(f"{line}\n    fn f(x: u8) -> u8 {{\n}}\n")], [name])

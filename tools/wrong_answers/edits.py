@@ -160,7 +160,7 @@ def heads(text):
     of, at, found = "", 0, []
     for line in text.splitlines(keepends=True):
         if head := re.match(r"impl(?:<[^>]*>)? (?:([\w<>, :]+) for )?(\w+)", line):
-            of = named(head[2]) + named(re.sub(r"\w+::", "", head[1] or "")) + "::"
+            of = named(head[2]) + named(re.sub(r"^(?:\w+::)+", "", head[1] or "")) + "::"
         elif line.startswith("}"):
             of = ""
         elif head := re.match(r".*\bfn (\w+)[(<]", line.split("//")[0]):
