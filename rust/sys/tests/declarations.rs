@@ -11,8 +11,8 @@ const RATTLE: [&str; 3] = [
 ];
 /// Where the room's answer is declared.
 const ROOM_ANSWER: &str = "answers/src/lib.rt";
-/// Where the key limit and the tag of a list's keys are declared.
-const NUMBERS: [&str; 2] = ["keys/src/lib.rt", "fields/src/lib.rt"];
+/// Where the key limit, the tags of the kinds and the tag of a list's keys are declared.
+const NUMBERS: [&str; 3] = ["keys/src/lib.rt", "kinds/src/kind.rt", "fields/src/lib.rt"];
 /// The range part's declarations and the manager's.
 const RUST: [&str; 4] = [
     "sys/src/boundary.rs",
