@@ -1,7 +1,7 @@
 -- The library's comparison, equality and prefix of byte slices are those of the definitions.
-use Prim.Native.Nat.{ℕ, ◌≤◌}
+use Prim.Native.Nat.{ℕ, ◌≤◌, ◌<◌}
 use mathlib.Core.Path.{◌≡◌, refl, sym, ap, ◌∙◌}
-use mathlib.Core.Bool.{◌&&◌}
+use mathlib.Core.Bool.{Bool, true, false, ◌&&◌}
 use mathlib.Core.List.{List, [], ◌∷◌}
 use mathlib.Core.Ordering as three_way
 use native.Mathlib.Omega.{arith}
@@ -18,6 +18,8 @@ use Rattle.std.specs.declared.cmp.Ordering.TheVariants.{Less, Equal, Greater}
 use Rattle.std.specs.contracts.cmp.Ordering.{the_type}
 use Rattle.std.specs.Ordering.{nat_cmp, ordering_then}
 use Rattle.std.specs.Cmp.Lexicographic.{slice_cmp}
+use Rattle.std.specs.Prelude.{Some}
+use Rattle.std.specs.List.{slice_get}
 use Rattle.keys.specs.Order.{order, sign, is_same, starts_with}
 use Rattle.keys.proofs.Heads.{head_less, head_more, head_same, Three, below, equal, above, three}
 
@@ -43,6 +45,18 @@ order_is (x ∷ a) (y ∷ b) = go (order_is a b) (three x y)
     go ih (equal e) = let h : x ≤ x = omega arith in rw (← e, le-ltb x x h, eq-eqb x x refl) ih
     go ih (above l) = let h : y ≤ x = omega arith in rw (le-ltb x y h, ne_eqb x y (λ e. omega arith), lt-ltb y x l)
 
+-- first bytes that differ decide
+pub first_is : (a b : List ℕ) (x y : ℕ) → slice_get a 0 ≡ Some x → slice_get b 0 ≡ Some y → (x ≡ y → ⊥) → as_order (nat_cmp x y) ≡ order a b
+unfolding order
+first_is [] b x y e f d = cc
+first_is (v ∷ a) [] x y e f d = cc
+first_is (v ∷ a) (w ∷ b) x y e f d = let p : v ≡ x = cc in let q : w ≡ y = cc in rw (p, q) (go (three x y))
+  where
+    go : Three x y → as_order (nat_cmp x y) ≡ order (x ∷ a) (y ∷ b)
+    go (below l) = rw (lt-ltb x y l)
+    go (equal e) = absurd (d e)
+    go (above l) = let h : y ≤ x = omega arith in rw (le-ltb x y h, ne_eqb x y (λ e. omega arith), lt-ltb y x l)
+
 pub same_is : (a b : List ℕ) → pointwise eqb a b ≡ is_same (order a b)
 unfolding order
 same_is [] [] = refl
@@ -60,3 +74,14 @@ unfolding starts_with
 front_is [] k = refl
 front_is (x ∷ p) [] = refl
 front_is (x ∷ p) (y ∷ k) = ap (λ t. eqb x y && t) (front_is p k)
+
+-- no key starts with a longer prefix
+pub longer_is : (p k : List ℕ) → length k < length p → starts_with p k ≡ false
+unfolding starts_with
+longer_is [] k h = absurd (omega arith)
+longer_is (x ∷ p) [] h = refl
+longer_is (x ∷ p) (y ∷ k) h = rw (longer_is p k (omega arith)) (go (eqb x y))
+  where
+    go : (b : Bool) → (b && false) ≡ false
+    go true = refl
+    go false = refl

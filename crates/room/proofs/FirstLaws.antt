@@ -16,6 +16,10 @@ use Rattle.layout.proofs.FrontLaws.{load_front, more_behind}
 use Rattle.room.specs.declared.View.{View}
 use Rattle.room.specs.Views.{Seen, HoldsNone, Opening}
 
+-- as many first bytes as there are at least are as many
+pub front_long : (n : ℕ) (s : List ℕ) → n ≤ length s → n ≤ length (take n s)
+front_long n s h = omega (arith, length-take-le n s h)
+
 module _ (s : List ℕ) (h : room_size base ≤ length s) where
   -- the bytes of the published size
   first : List ℕ

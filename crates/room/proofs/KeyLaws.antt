@@ -1,9 +1,11 @@
 -- A key stands where its length does and so many bytes, and is its own label; for any key limit.
-use Prim.Native.Nat.{ℕ, ◌+◌, ◌-◌, ◌≤◌, ◌<◌}
+use Prim.Native.Nat.{ℕ, ◌+◌, ◌-◌, ◌≤◌, ◌<◌, min}
 use mathlib.Core.Path.{◌≡◌, refl, sym}
+use mathlib.Core.Bool.{Bool, true, false}
 use mathlib.Core.List.{List}
 use native.Mathlib.Omega.{arith}
-use borrow.Author.Tests.{le-leb, lt-leb}
+use borrow.Author.Tests.{le-leb, lt-leb, ltb-true, ltb-false}
+use lib.Dec.{ltb}
 use lib.ListN.{length, take, drop, length-drop}
 use lib.Seq.{drop-drop, length-take-le}
 use Rattle.codec.specs.Codec.{cut}
@@ -36,6 +38,13 @@ module _ (m : ℕ) (s : List ℕ) (at : ℕ) where
     key_cut h k =
         let l : length (drop (at + length_size) s) < n = rw (length-drop (at + length_size) s) (omega arith) in
         record { reads = rw (r.reads, le-leb n m h, lt-leb n (length (drop (at + length_size) s)) l) }
+
+    pub key_over : min m (length s - at - length_size) < n → Missing (key_form m) s at
+    key_over h = go (ltb m n) refl
+      where
+        go : (b : Bool) → ltb m n ≡ b → Missing (key_form m) s at
+        go true e = key_long (ltb-true m n e)
+        go false e = key_cut (ltb-false m n e) (omega (arith, h, ltb-false m n e))
 
     pub key_got : n ≤ m → at + length_size + n ≤ length s → Got (a_key m) s at (record { end = at + length_size + n; marks = 1; bytes = n; high = 0 })
     unfolding key_form via bind only raw

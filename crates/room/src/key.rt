@@ -20,7 +20,7 @@ pub fn key_end(room: &[u8], at: usize, limit: usize) -> Option<Tally>
         return None;
     }
     let n = codec::numbers::read_two(room, at);
-    if limit < n || room.len() - at - LENGTH < n {
+    if limit.min(room.len() - at - LENGTH) < n {
         return None;
     }
     Some(Tally {

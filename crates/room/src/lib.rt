@@ -76,7 +76,10 @@ fn sound(top: Top, t: Tally) -> bool
 pub fn open(room: &[u8]) -> Option<View>
     ensures { Opening room.now result }
 {
-    open_record(room.get(..SIZE)?)
+    if room.len() < SIZE {
+        return None;
+    }
+    open_record(&room[..SIZE])
 }
 
 // The same, of a room that is as long as the published size at least.
