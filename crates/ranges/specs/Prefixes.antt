@@ -25,6 +25,10 @@ abbrev pub Raises : List ℕ → Maybe ℕ → Type 0
 Raises p (Some n) = RaisesAt p n
 Raises p None = increment p ≡ none
 
+-- no increment is empty, so zero stands for none
+abbrev pub unless_zero : ℕ → Maybe ℕ
+unless_zero n = cond (eqb n 0) None (Some n)
+
 -- the end that stands above all with a prefix: excluded at its increment, unbounded if there is none
 abbrev pub end_at : Option (List ℕ) → Bound
 end_at (some k) = excluded k

@@ -2,7 +2,7 @@ ghost use Rattle.std.specs.Prelude.{◌≡◌, ◌≤◌, ◌<◌, ◌-◌, leng
 ghost use Rattle.keys.specs.Limit.{key_limit};
 ghost use Rattle.kinds.specs.Bounds.{bound};
 ghost use Rattle.bounds.specs.Ranges.{range, range_of, holds, is_point};
-ghost use Rattle.ranges.specs.Prefixes.{increment, Raises, end_at, prefix_range, subrange_of, sub_start, sub_end};
+ghost use Rattle.ranges.specs.Prefixes.{increment, Raises, unless_zero, end_at, prefix_range, subrange_of, sub_start, sub_end};
 ghost use Rattle.ranges.specs.Made.{too_long, made_of, made_bound};
 ghost use Rattle.ranges.specs.Making.{new_of, made_increment, made_range};
 
@@ -33,14 +33,15 @@ fn raised(prefix: &[u8]) -> MadeBound
 }
 
 // How long the increment of a prefix is: that of a prefix whose last byte is ff is the increment of what stands before
-// it; none where every byte is ff. It answers a number, since a made key in each frame of the recursion would take much stack.
-fn increment_len(prefix: &[u8]) -> Option<usize>
-    ensures { Raises prefix.now result }
+// it; zero where there is none. It answers a number, since a made key in each frame of the recursion would take much stack, and no
+// `Option` of one, since the machine code of that recursion would take some for each byte.
+fn increment_len(prefix: &[u8]) -> usize
+    ensures { Raises prefix.now (unless_zero result) }
 {
     match prefix {
-        [] => None,
+        [] => 0,
         [front @ .., 255] => increment_len(front),
-        _ => Some(prefix.len()),
+        _ => prefix.len(),
     }
 }
 
@@ -49,12 +50,13 @@ fn increment(prefix: &[u8]) -> MadeBound
     ensures { result ≡ made_of (end_at (increment prefix.now)) }
 {
     match increment_len(prefix) {
-        None => MadeBound::unbounded(),
-        Some(n) => raised(&prefix[..n]),
+        0 => MadeBound::unbounded(),
+        n => raised(&prefix[..n]),
     }
 }
 
 // The start of a prefix's subrange: unbounded is from the bare prefix on, which everything has if it is empty.
+#[inline(always)]
 fn start_of(prefix: &[u8], start: Kind, suffix: &[u8]) -> Result<MadeBound, RangeError>
     ensures { result ≡ made_bound (sub_start prefix.now (bound start suffix.now)) }
 {
@@ -68,6 +70,7 @@ fn start_of(prefix: &[u8], start: Kind, suffix: &[u8]) -> Result<MadeBound, Rang
 }
 
 // The end of a prefix's subrange: unbounded is up to the prefix's increment.
+#[inline(always)]
 fn end_of(prefix: &[u8], end: Kind, suffix: &[u8]) -> Result<MadeBound, RangeError>
     requires { length prefix.now ≤ key_limit }
     ensures { result ≡ made_bound (sub_end prefix.now (bound end suffix.now)) }
@@ -96,6 +99,7 @@ impl BytesRange {
     };
 
     // The range of a pair of bounds, or why it is none: the source's assertion, with the added limit before it.
+    #[inline(always)]
     pub fn new(start: Kind, start_key: &[u8], end: Kind, end_key: &[u8]) -> Result<Self, RangeError>
         ensures { result ≡ new_of (range (bound start start_key.now) (bound end end_key.now)) }
     {
@@ -117,6 +121,7 @@ impl BytesRange {
     }
 
     // The range of all keys that start with a prefix: the whole key space within it.
+    #[inline(always)]
     pub fn from_prefix(prefix: &[u8]) -> Result<MadeRange, RangeError>
         ensures { result ≡ made_range (prefix_range prefix.now) }
     {
@@ -124,6 +129,7 @@ impl BytesRange {
     }
 
     // The keys that start with a prefix and go on with a suffix of the subrange.
+    #[inline(always)]
     pub fn from_prefix_and_subrange(
         prefix: &[u8],
         subrange: ComparableRange,
@@ -135,8 +141,14 @@ impl BytesRange {
         if KEY_LIMIT < prefix.len() {
             return Err(RangeError::LongKey);
         }
-        let start = start_of(prefix, subrange.start, start_suffix)?;
-        let end = end_of(prefix, subrange.end, end_suffix)?;
+        let start = match start_of(prefix, subrange.start, start_suffix) {
+            Ok(start) => start,
+            Err(error) => return Err(error),
+        };
+        let end = match end_of(prefix, subrange.end, end_suffix) {
+            Ok(end) => end,
+            Err(error) => return Err(error),
+        };
         BytesRange::new(start.kind, start.key(), end.kind, end.key())?;
         Ok(MadeRange { start, end })
     }
