@@ -5,12 +5,15 @@ ghost use Rattle.std.specs.Prelude.{◌≡◌, ◌+◌, ◌≤◌, length, drop}
 ghost use Rattle.std.proofs.Math.Seq.{paste};
 ghost use Rattle.moves.specs.Splices.{Spliced, used_after};
 
-// Copies a slice into another from a place on.
+// Copies a slice into another from a place on: byte by byte, since of std's `copy_from_slice` between two lent slices the compiler
+// makes a call of memmove, which the archive would have to ask its host for.
 pub fn copy_in(room: &mut [u8], at: usize, src: &[u8])
     requires { at + length src.now ≤ length room.old }
     ensures { room.new ≡ paste room.old at src.now (length src.now) }
 {
-    room[at..at + src.len()].copy_from_slice(src);
+    for i in 0..src.len() {
+        room[at + i] = src[i];
+    }
 }
 
 // Copies `n` bytes from one place to another; bytes that stay where they are cost nothing.
