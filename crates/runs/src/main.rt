@@ -8,6 +8,7 @@ use codec::numbers::read_eight;
 use input::read_full;
 use manager::transaction_manager::new;
 use room::ceilings::SIZE;
+use script::lines::{LINE_LIMIT, put_line};
 use script::records::next_record;
 use script::served::serve_record;
 use std::io;
@@ -23,6 +24,13 @@ const RUN: u8 = 0;
 
 // The tag, and the number that the run's room is made fresh at.
 const RUN_SIZE: usize = 9;
+
+// The line of an answer: `put_line`'s contract says its text, as for replay.
+fn say(out: &Stdout, answer: Answer) -> io::Result<()> {
+    let mut line = [0; LINE_LIMIT];
+    let n = put_line(&mut line, 0, answer.status, answer.value);
+    out.write_all(&line[..n])
+}
 
 // The line that says where the runs do not read.
 fn say_bad(out: &Stdout, at: usize) -> io::Result<()> {
@@ -64,7 +72,7 @@ fn serve_at(
     };
     let payload = record.payload;
     let answer = Answer::from(serve_record(room, record.tag, &runs[payload.from..payload.to]));
-    println!(out; "{} {}", answer.status, answer.value)?;
+    say(out, answer)?;
     Ok(Some(payload.to))
 }
 

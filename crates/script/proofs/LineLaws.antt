@@ -1,14 +1,12 @@
 -- Texts put one after the other, and how long a line may be.
 use Prim.Native.Nat.{ℕ, zero, suc, ◌+◌, ◌/◌, ◌%◌, ◌^◌, ◌≤◌, ◌<◌}
-use native.Mathlib.Nat.{le_refl}
-use mathlib.Core.Path.{◌≡◌, refl, sym, ap, ◌∙◌}
+use native.Mathlib.Nat.{pow-suc, le_refl}
+use mathlib.Core.Path.{◌≡◌, refl, ap, ◌∙◌}
 use mathlib.Core.Bool.{Bool, true, false, cond}
 use mathlib.Core.List.{List, [], ◌∷◌, ◌++◌}
 use native.Mathlib.Omega.{arith}
-use borrow.Author.Tests.{lt-ltb, le-ltb, ltb-false}
+use borrow.Author.Tests.{lt-ltb, le-ltb, ltb-true, ltb-false}
 use lib.Dec.{ltb}
-use Rattle.std.specs.Prelude.{decimal as std_decimal}
-use Rattle.std.proofs.lemmas.Fmt.{decimal_by_steps, length-decimal-le}
 use lib.ListN.{length, take, drop, length-append}
 use lib.Seq.{length-paste, take-paste, drop-paste, take-length}
 use Rattle.moves.proofs.SpliceLaws.{paste_on}
@@ -40,19 +38,16 @@ unfolding decimal decimal_in
 decimal_high n h =
     rw (le-ltb n 10 h) (ap (λ (l : List ℕ). l ++ ((48 + n % 10) ∷ [])) (enough n (suc (n / 10)) (n / 10) (omega arith) (omega arith)))
 
--- std's text of a number is this one
-pub decimal_is : (n : ℕ) → n < 256 ^ number_size → std_decimal n ≡ decimal n
-decimal_is n h =
-    decimal_by_steps
-    (λ m ds. ds ≡ decimal m)
-    (λ m k. let e : 48 + m ≡ 48 + m % 10 = omega arith in sym (decimal_low m k ∙ ap (λ (d : ℕ). d ∷ []) (sym e)))
-    (λ m ds k e. ap (λ (l : List ℕ). l ++ ((48 + m % 10) ∷ [])) e ∙ sym (decimal_high m k))
-    n
-    (omega (arith, h))
-
 -- a number below the k-th power of ten has at most k digits
-decimal_short : (k n : ℕ) → 0 < k → n < 10 ^ k → n < 256 ^ number_size → length (decimal n) ≤ k
-decimal_short k n p h w = rw (← decimal_is n w) (length-decimal-le k n p h (omega (arith, w)))
+pub decimal_short : (k n : ℕ) → n < 10 ^ suc k → length (decimal n) ≤ suc k
+decimal_short zero n h = rw (decimal_low n (omega arith)) (omega arith)
+decimal_short (suc k) n h = go (ltb n 10) refl (decimal_short k)
+  where
+    go : (b : Bool) → ltb n 10 ≡ b → ((m : ℕ) → m < 10 ^ suc k → length (decimal m) ≤ suc k) → length (decimal n) ≤ suc (suc k)
+    go true e ih = rw (decimal_low n (ltb-true n 10 e)) (omega arith)
+    go false e ih =
+        let s : n / 10 < 10 ^ suc k = omega (arith, pow-suc 10 (suc k)) in
+        rw (decimal_high n (ltb-false n 10 e), length-append (decimal (n / 10)) ((48 + n % 10) ∷ [])) (omega (arith, ih (n / 10) s))
 
 -- ---- texts
 
@@ -63,6 +58,23 @@ put_on {s} {s'} {s''} {a} {b} {at} {m} {e} p q h =
       ends = omega (arith, p.ends, q.ends, l);
       bytes = q.bytes ∙ rw (p.bytes, p.ends) (paste_on s at a b (omega (arith, l)));
     }
+
+pub put_low : {s s' : List ℕ} {at n d e : ℕ} → n < 10 → d ≡ 48 + n % 10 → Put s at (d ∷ []) e s' → Put s at (decimal n) e s'
+put_low {s} {s'} {at} {n} {d} {e} h k p = rw (decimal_low n h, ← k) p
+
+pub put_high : {s s' s'' : List ℕ} {at n d m e : ℕ} → 10 ≤ n → d ≡ 48 + n % 10 → Put s at (decimal (n / 10)) m s' → Put s' m (d ∷ []) e s''
+    → at + length (decimal n) ≤ length s → Put s at (decimal n) e s''
+put_high {s} {s'} {s''} {at} {n} {d} {m} {e} h k p q r =
+    let x : decimal n ≡ decimal (n / 10) ++ (d ∷ []) = rw k (decimal_high n h) in
+    rw x (put_on p q (rw (← x) r))
+
+pub room_low : (n at m : ℕ) → n < 10 → at + length (decimal n) ≤ m → at + 1 ≤ m
+room_low n at m h r = omega (arith, ap length (decimal_low n h), r)
+
+-- the last digit comes after the others
+pub room_high : (n at m : ℕ) → 10 ≤ n → at + length (decimal n) ≤ m → at + length (decimal (n / 10)) + 1 ≤ m
+room_high n at m h r =
+    omega (arith, ap length (decimal_high n h), length-append (decimal (n / 10)) ((48 + n % 10) ∷ []), r)
 
 -- the bytes up to a text's end are those before it and the text; those behind it stay
 module _ {s s' text : List ℕ} {at e : ℕ} (p : Put s at text e s') (h : at + length text ≤ length s) where
@@ -78,10 +90,10 @@ module _ {s s' text : List ℕ} {at e : ℕ} (p : Put s at text e s') (h : at + 
 -- ---- lines
 
 pub byte_short : (n : ℕ) → n < 256 → length (decimal n) ≤ 3
-byte_short n h = decimal_short 3 n (omega arith) (omega arith) (omega arith)
+byte_short n h = decimal_short 2 n (omega arith)
 
 pub word_short : (n : ℕ) → n < 256 ^ number_size → length (decimal n) ≤ 20
-word_short n h = decimal_short 20 n (omega arith) (omega arith) h
+word_short n h = decimal_short 19 n (omega arith)
 
 pub put_answer : {s s1 s2 s3 s4 : List ℕ} {at st v a b c e : ℕ} → at + line_limit ≤ length s → st < 256 → v < 256 ^ number_size
     → Put s at (decimal st) a s1 → Put s1 a (32 ∷ []) b s2 → Put s2 b (decimal v) c s3 → Put s3 c (10 ∷ []) e s4

@@ -1,8 +1,7 @@
 // The lines that are printed, put into a lent run of bytes.
-ghost use Rattle.std.specs.Prelude.{◌+◌, ◌≤◌, length};
+ghost use Rattle.std.specs.Prelude.{◌≡◌, ◌+◌, ◌%◌, ◌≤◌, length};
 ghost use Rattle.script.specs.Lines.{decimal, line_of, stop_line, line_limit, Put};
 
-use itoa::Buffer;
 use moves::copy_in;
 
 // No line is longer: `stop`, a space, a number of at most 20 digits, and the line's end.
@@ -17,11 +16,23 @@ fn put_text(out: &mut [u8], at: usize, text: &[u8]) -> usize
     at + text.len()
 }
 
+// The digit of a number's last place.
+fn digit(n: u64) -> u8
+    ensures { result ≡ 48 + n % 10 }
+{
+    b'0' + (n % 10) as u8
+}
+
+// Digit by digit, since no crate takes a library of the kit.
 fn put_decimal(out: &mut [u8], at: usize, n: u64) -> usize
     requires { at + length (decimal n) ≤ length out.old }
     ensures { Put out.old at (decimal n) result out.new }
 {
-    put_text(out, at, Buffer::new().format(n).as_bytes())
+    if n < 10 {
+        return put_text(out, at, &[digit(n)]);
+    }
+    let next = put_decimal(out, at, n / 10);
+    put_text(out, next, &[digit(n)])
 }
 
 // The line of an answer: status, space, value in decimal. The bytes are lent, so it answers where the line ends.
