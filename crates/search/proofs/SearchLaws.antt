@@ -53,7 +53,7 @@ module _ (s : List ℕ) (txn : ℕ) where
     pub is : (t : Txn) (f : ℕ) (x : Entry) (g : ℕ) → Fills (txn_form any_length) s txn t f → Fills (entry_form any_length) s at x g
         → Walk (Before (key_form any_length) s c) (tracks t) (any (tracks t) x.keys)
 
-entry_room : {s : List ℕ} {at : ℕ} → Here (entry_form any_length) s at → at + keys_at + count_size ≤ length s
+pub entry_room : {s : List ℕ} {at : ℕ} → Here (entry_form any_length) s at → at + keys_at + count_size ≤ length s
 entry_room h = (open_set any_length (open_entry any_length h.fills).set).count_at.inside
 
 -- ---------------------------------------------------------------- marks

@@ -8,7 +8,7 @@ use Rattle.kinds.specs.Bounds.{bound_tag}
 use Rattle.ranges.specs.declared.made.RangeError.{RangeError}
 use Rattle.ranges.specs.declared.made.MadeBound.{MadeBound}
 use Rattle.ranges.specs.declared.bytes_range.BytesRange.{BytesRange}
-use Rattle.ranges.specs.Made.{refusal_status}
+use Rattle.ranges.specs.Made.{status}
 use Rattle.stranvek.specs.declared.boundary.Compared.{Compared}
 use Rattle.stranvek.specs.declared.boundary.Told.{Told}
 use Rattle.stranvek.specs.declared.boundary.NewRange.{NewRange}
@@ -27,10 +27,10 @@ told b = record { status = 0; holds = b }
 
 -- "length 0 and unbounded when refused"
 abbrev pub refused_range : RangeError → NewRange
-refused_range e = record { status = refusal_status e; start_kind = bound_tag Unbounded; end_kind = bound_tag Unbounded }
+refused_range e = record { status = status {A = BytesRange} (Err e); start_kind = bound_tag Unbounded; end_kind = bound_tag Unbounded }
 
 abbrev pub new_range : Result BytesRange RangeError → Kind → Kind → NewRange
-new_range (Ok r) a b = record { status = 0; start_kind = bound_tag a; end_kind = bound_tag b }
+new_range (Ok r) a b = record { status = status (Ok r); start_kind = bound_tag a; end_kind = bound_tag b }
 new_range (Err e) a b = refused_range e
 
 -- a new range with the kinds that it has itself
@@ -39,5 +39,5 @@ ranged (Ok r) = new_range (Ok r) r.inner.start r.inner.end
 ranged (Err e) = refused_range e
 
 abbrev pub made_key : Result MadeBound RangeError → MadeKey
-made_key (Ok m) = record { status = 0; key = key m }
-made_key (Err e) = record { status = refusal_status e; key = no_key }
+made_key (Ok m) = record { status = status (Ok m); key = key m }
+made_key (Err e) = record { status = status {A = MadeBound} (Err e); key = no_key }

@@ -12,7 +12,7 @@ use Rattle.bounds.specs.Sides.{sided}
 use Rattle.ranges.specs.declared.made.MadeBound.{MadeBound}
 use Rattle.ranges.specs.declared.bytes_range.MadeRange.{MadeRange}
 use Rattle.ranges.specs.declared.made.RangeError.{RangeError}
-use Rattle.ranges.specs.Made.{refusal_status, made_of}
+use Rattle.ranges.specs.Made.{status, made_of}
 use Rattle.stranvek.specs.declared.boundary.Pair.{Pair}
 use Rattle.stranvek.specs.declared.boundary.Key.{Key}
 use Rattle.stranvek.specs.declared.boundary.MadeKeys.{MadeKeys}
@@ -56,5 +56,5 @@ abbrev pub no_key : Key
 no_key = key (made_of unbounded)
 
 abbrev pub made_keys : Result MadeRange RangeError → MadeKeys
-made_keys (Ok m) = record { status = 0; start = key m.start; end = key m.end }
-made_keys (Err e) = record { status = refusal_status e; start = no_key; end = no_key }
+made_keys (Ok m) = record { status = status (Ok m); start = key m.start; end = key m.end }
+made_keys (Err e) = record { status = status {A = MadeRange} (Err e); start = no_key; end = no_key }

@@ -32,7 +32,7 @@ use Rattle.tracks.proofs.DraftLaws.{zeros, zeros_long}
 use Rattle.tracks.specs.Tracks.{Growable, GrownOutcome, GrownIs}
 
 -- some bytes stand behind the first two of a draft
-record Copied (d src : Bytes) : Type 0 where
+pub record Copied (d src : Bytes) : Type 0 where
   pub size : length d ≡ set_size
   pub rest : Bytes
   pub is : drop count_size d ≡ src ++ rest

@@ -47,13 +47,13 @@ one_long n r h = not_true (short_range n r) (λ e. no h ((and-eq-true_iff (leb (
 
 module _ {bs : Bytes} {p : BoundPlaces} (b : BoundsAt bs p) where
   -- where the keys stand
-  record Within : Type 0 where
+  pub record Within : Type 0 where
     pub start : p.start.key.from ≤ p.start.key.to
     pub middle : p.start.key.to ≤ p.end.key.from
     pub end : p.end.key.from ≤ p.end.key.to
     pub whole : p.end.key.to ≡ length bs
 
-  keys_within : Within
+  pub keys_within : Within
   keys_within =
       record {
         start = omega (arith, b.start_ends);
