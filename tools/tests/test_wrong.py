@@ -151,7 +151,7 @@ class Runs(unittest.TestCase):
         other = ("src/lib.rt", "    a.cmp(b) as i8", "    a.cmp(a) as i8")
         equal = ("src/lib.rt", "    a == b", "    a == a")
         order = ("specs/Order.antt", "order [] (y ∷ ys) = lt", "order [] (y ∷ ys) = gt")
-        first, second = answer("compare", changes=[compare]), answer("compare", changes=[other])
+        first, second = answer("compare_on", changes=[compare]), answer("compare_on", changes=[other])
         third, rule = answer("equal", changes=[equal]), answer(theorem="order_swap", changes=[order])
         elsewhere = answer("starts_with", changes=[equal])
         self.assertEqual(runs_of([first, second, third, rule, elsewhere], False), [[first, third], [second], [rule], [elsewhere]])
