@@ -1,5 +1,5 @@
 -- The library's comparison, equality and prefix of byte slices are those of the definitions.
-use Prim.Native.Nat.{ℕ, ◌≤◌, ◌<◌}
+use Prim.Native.Nat.{ℕ, suc, ◌≤◌, ◌<◌}
 use mathlib.Core.Path.{◌≡◌, refl, sym, ap, ◌∙◌}
 use mathlib.Core.Bool.{Bool, true, false, ◌&&◌}
 use mathlib.Core.List.{List, [], ◌∷◌}
@@ -8,7 +8,8 @@ use native.Mathlib.Omega.{arith}
 use borrow.Author.Tests.{lt-ltb, le-ltb, eq-eqb, ne_eqb}
 use lib.Dec.{eqb}
 use lib.IntN.{◌+ℤ◌, negsuc}
-use lib.ListN.{length, take}
+use lib.ListN.{length, take, drop, get_or}
+use lib.Seq.{drop-cons}
 use lib.Pointwise.{pointwise}
 use mir.Syntax.{w8}
 use mir.Val.{to_z, of_z}
@@ -18,8 +19,6 @@ use Rattle.std.specs.declared.cmp.Ordering.TheVariants.{Less, Equal, Greater}
 use Rattle.std.specs.contracts.cmp.Ordering.{the_type}
 use Rattle.std.specs.Ordering.{nat_cmp, ordering_then}
 use Rattle.std.specs.Cmp.Lexicographic.{slice_cmp}
-use Rattle.std.specs.Prelude.{Some}
-use Rattle.std.specs.List.{slice_get}
 use Rattle.keys.specs.Order.{order, sign, is_same, starts_with}
 use Rattle.keys.proofs.Heads.{head_less, head_more, head_same, Three, below, equal, above, three}
 
@@ -45,17 +44,19 @@ order_is (x ∷ a) (y ∷ b) = go (order_is a b) (three x y)
     go ih (equal e) = let h : x ≤ x = omega arith in rw (← e, le-ltb x x h, eq-eqb x x refl) ih
     go ih (above l) = let h : y ≤ x = omega arith in rw (le-ltb x y h, ne_eqb x y (λ e. omega arith), lt-ltb y x l)
 
--- first bytes that differ decide
-pub first_is : (a b : List ℕ) (x y : ℕ) → slice_get a 0 ≡ Some x → slice_get b 0 ≡ Some y → (x ≡ y → ⊥) → as_order (nat_cmp x y) ≡ order a b
+-- where two strings agree before a place, what stands from there on decides
+pub next_is : (a b : List ℕ) (i : ℕ) → i < length a → i < length b → get_or a i 0 ≡ get_or b i 0 → order (drop i a) (drop i b) ≡ order (drop (suc i) a) (drop (suc i) b)
+next_is a b i h k e = rw (drop-cons a i 0 h, drop-cons b i 0 k, e) (head_same (get_or b i 0) (drop (suc i) a) (drop (suc i) b))
+
+-- the first bytes that differ decide
+pub first_is : (a b : List ℕ) (i : ℕ) → i < length a → i < length b → (get_or a i 0 ≡ get_or b i 0 → ⊥) → as_order (nat_cmp (get_or a i 0) (get_or b i 0)) ≡ order (drop i a) (drop i b)
 unfolding order
-first_is [] b x y e f d = cc
-first_is (v ∷ a) [] x y e f d = cc
-first_is (v ∷ a) (w ∷ b) x y e f d = let p : v ≡ x = cc in let q : w ≡ y = cc in rw (p, q) (go (three x y))
+first_is a b i h k d = rw (drop-cons a i 0 h, drop-cons b i 0 k) (go (get_or a i 0) (get_or b i 0) d (three (get_or a i 0) (get_or b i 0)))
   where
-    go : Three x y → as_order (nat_cmp x y) ≡ order (x ∷ a) (y ∷ b)
-    go (below l) = rw (lt-ltb x y l)
-    go (equal e) = absurd (d e)
-    go (above l) = let h : y ≤ x = omega arith in rw (le-ltb x y h, ne_eqb x y (λ e. omega arith), lt-ltb y x l)
+    go : (x y : ℕ) → (x ≡ y → ⊥) → Three x y → as_order (nat_cmp x y) ≡ order (x ∷ drop (suc i) a) (y ∷ drop (suc i) b)
+    go x y d (below l) = rw (lt-ltb x y l)
+    go x y d (equal e) = absurd (d e)
+    go x y d (above l) = let h : y ≤ x = omega arith in rw (le-ltb x y h, ne_eqb x y (λ e. omega arith), lt-ltb y x l)
 
 pub same_is : (a b : List ℕ) → pointwise eqb a b ≡ is_same (order a b)
 unfolding order

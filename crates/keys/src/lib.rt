@@ -7,16 +7,21 @@ ghost use Rattle.keys.specs.Order.{order, sign, is_same, starts_with};
 // A stored key has at most this many bytes.
 pub const KEY_LIMIT: usize = 512;
 
+// So many bytes `compare` looks at one by one.
+const NEAR: usize = 8;
+
 // Where a stands against b: -1 before it, 0 at it, 1 after it; no `Ordering`, since the number crosses the boundary as it is.
 #[inline(always)]
 pub fn compare(a: &[u8], b: &[u8]) -> i8
     ensures { result ≡ sign (order a.now b.now) }
 {
-    // Most keys differ in their first byte, where a scan of both would not pay.
-    match (a.first(), b.first()) {
-        (Some(x), Some(y)) if x != y => x.cmp(y) as i8,
-        _ => compare_on(a, b),
+    // Most keys differ in one of their first bytes, where a scan of both would not pay.
+    for i in 0..a.len().min(b.len()).min(NEAR) {
+        if a[i] != b[i] {
+            return a[i].cmp(&b[i]) as i8;
+        }
     }
+    compare_on(a, b)
 }
 
 // The same by std's scan, out of the way of what calls `compare`.
