@@ -28,6 +28,7 @@ impl ComparableRange {
     }
 
     // The derived order, by start and then by end: a number, as each bound's.
+    #[inline(always)]
     pub fn compare(
         self,
         start_key: &[u8],

@@ -10,6 +10,7 @@ use lib.Dec.{eqb}
 use lib.IntN.{◌+ℤ◌, negsuc}
 use lib.ListN.{length, take, drop, get_or}
 use lib.Seq.{drop-cons}
+use Rattle.std.proofs.lemmas.List.{drop_all}
 use lib.Pointwise.{pointwise}
 use mir.Syntax.{w8}
 use mir.Val.{to_z, of_z}
@@ -49,14 +50,11 @@ pub next_is : (a b : List ℕ) (i : ℕ) → i < length a → i < length b → g
 next_is a b i h k e = rw (drop-cons a i 0 h, drop-cons b i 0 k, e) (head_same (get_or b i 0) (drop (suc i) a) (drop (suc i) b))
 
 -- the first bytes that differ decide
-pub first_is : (a b : List ℕ) (i : ℕ) → i < length a → i < length b → (get_or a i 0 ≡ get_or b i 0 → ⊥) → as_order (nat_cmp (get_or a i 0) (get_or b i 0)) ≡ order (drop i a) (drop i b)
-unfolding order
-first_is a b i h k d = rw (drop-cons a i 0 h, drop-cons b i 0 k) (go (get_or a i 0) (get_or b i 0) d (three (get_or a i 0) (get_or b i 0)))
-  where
-    go : (x y : ℕ) → (x ≡ y → ⊥) → Three x y → as_order (nat_cmp x y) ≡ order (x ∷ drop (suc i) a) (y ∷ drop (suc i) b)
-    go x y d (below l) = rw (lt-ltb x y l)
-    go x y d (equal e) = absurd (d e)
-    go x y d (above l) = let h : y ≤ x = omega arith in rw (le-ltb x y h, ne_eqb x y (λ e. omega arith), lt-ltb y x l)
+pub lesser_is : (a b : List ℕ) (i : ℕ) → i < length a → i < length b → get_or a i 0 < get_or b i 0 → order (drop i a) (drop i b) ≡ three_way.lt
+lesser_is a b i h k l = rw (drop-cons a i 0 h, drop-cons b i 0 k) (head_less (get_or a i 0) (get_or b i 0) (drop (suc i) a) (drop (suc i) b) l)
+
+pub greater_is : (a b : List ℕ) (i : ℕ) → i < length a → i < length b → get_or b i 0 < get_or a i 0 → order (drop i a) (drop i b) ≡ three_way.gt
+greater_is a b i h k l = rw (drop-cons a i 0 h, drop-cons b i 0 k) (head_more (get_or a i 0) (get_or b i 0) (drop (suc i) a) (drop (suc i) b) l)
 
 pub same_is : (a b : List ℕ) → pointwise eqb a b ≡ is_same (order a b)
 unfolding order
@@ -86,3 +84,8 @@ longer_is (x ∷ p) (y ∷ k) h = rw (longer_is p k (omega arith)) (go (eqb x y)
     go : (b : Bool) → (b && false) ≡ false
     go true = refl
     go false = refl
+
+-- where the second ends within the first, the first comes after it
+pub second_ends : (a b : List ℕ) (i : ℕ) → i < length a → length b ≤ i → order (drop i a) (drop i b) ≡ three_way.gt
+unfolding order
+second_ends a b i h k = rw (drop-cons a i 0 h, drop_all i b k)

@@ -16,9 +16,15 @@ pub fn compare(a: &[u8], b: &[u8]) -> i8
     ensures { result ≡ sign (order a.now b.now) }
 {
     // Most keys differ in one of their first bytes, where a scan of both would not pay.
-    for i in 0..a.len().min(b.len()).min(NEAR) {
-        if a[i] != b[i] {
-            return a[i].cmp(&b[i]) as i8;
+    for i in 0..a.len().min(NEAR) {
+        if b.len() <= i {
+            return 1;
+        }
+        if a[i] < b[i] {
+            return -1;
+        }
+        if b[i] < a[i] {
+            return 1;
         }
     }
     compare_on(a, b)

@@ -75,12 +75,11 @@ impl Kind {
     fn compare_bound(self, key: &[u8], other: Kind, other_key: &[u8], start: bool) -> i8
         ensures { result ≡ sign (bound_order start (bound self key.now) (bound other other_key.now)) }
     {
-        let tie = self.tie_of(other, start);
         if !self.bounded() || !other.bounded() {
-            return tie;
+            return self.tie_of(other, start);
         }
         match keys::compare(key, other_key) {
-            0 => tie,
+            0 => self.tie_of(other, start),
             order => order,
         }
     }
