@@ -149,8 +149,11 @@ impl BytesRange {
             Ok(end) => end,
             Err(error) => return Err(error),
         };
+        // The range is put together first, so that what was made is moved once.
+        let range = MadeRange { start, end };
+        let MadeRange { start, end } = &range;
         BytesRange::new(start.kind, start.key(), end.kind, end.key())?;
-        Ok(MadeRange { start, end })
+        Ok(range)
     }
 
     // The smallest byte string above all that start with a prefix, as an excluded end; none is unbounded.

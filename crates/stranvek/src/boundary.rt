@@ -142,20 +142,22 @@ impl From<Result<MadeRange, RangeError>> for MadeKeys {
     ghost from_gives = { λ made answer. answer ≡ made_keys made };
 
     fn from(made: Result<MadeRange, RangeError>) -> Self {
-        match made {
-            Ok(range) => MadeKeys {
-                status: 0,
-                start: Key::from(range.start),
-                end: Key::from(range.end),
-            },
+        // A return of its own for what is refused, so that what was made is moved once less.
+        let MadeRange { start, end } = match made {
+            Ok(range) => range,
             Err(error) => {
                 let nothing = Key::from(MadeBound::unbounded());
-                MadeKeys {
+                return MadeKeys {
                     status: u8::from(error),
                     start: nothing,
                     end: nothing,
-                }
+                };
             }
+        };
+        MadeKeys {
+            status: 0,
+            start: Key::from(start),
+            end: Key::from(end),
         }
     }
 }
