@@ -85,7 +85,15 @@ longer_is (x ∷ p) (y ∷ k) h = rw (longer_is p k (omega arith)) (go (eqb x y)
     go true = refl
     go false = refl
 
--- where the second ends within the first, the first comes after it
+-- where one of two strings ends that agree up to there, the lengths decide
 pub second_ends : (a b : List ℕ) (i : ℕ) → i < length a → length b ≤ i → order (drop i a) (drop i b) ≡ three_way.gt
 unfolding order
 second_ends a b i h k = rw (drop-cons a i 0 h, drop_all i b k)
+
+pub first_ends : (a b : List ℕ) (i : ℕ) → length a ≤ i → i < length b → order (drop i a) (drop i b) ≡ three_way.lt
+unfolding order
+first_ends a b i h k = rw (drop_all i a h, drop-cons b i 0 k)
+
+pub both_end : (a b : List ℕ) (i : ℕ) → length a ≤ i → length b ≤ i → order (drop i a) (drop i b) ≡ three_way.eq
+unfolding order
+both_end a b i h k = rw (drop_all i a h, drop_all i b k)

@@ -27,6 +27,10 @@ pub fn compare(a: &[u8], b: &[u8]) -> i8
             return 1;
         }
     }
+    // The first key has ended, and the second begins with it.
+    if a.len() <= NEAR {
+        return if a.len() < b.len() { -1 } else { 0 };
+    }
     compare_on(a, b)
 }
 

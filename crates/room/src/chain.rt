@@ -24,7 +24,9 @@ pub trait Chained {
     ghost linked: { Linked chain };
 }
 
-// Where n of them end, each such that it may follow the one before.
+// Where n of them end, each such that it may follow the one before. In line, as is the list's: a call of it would move a tally
+// for each entry.
+#[inline(always)]
 pub fn chain_end<C: Chained>(room: &[u8], at: usize, n: usize) -> Option<Tally>
     requires { at ≤ length room.now }
     ensures { Walks (chain_of C.chain n) room.now at result }
@@ -43,6 +45,7 @@ pub fn chain_end<C: Chained>(room: &[u8], at: usize, n: usize) -> Option<Tally>
 }
 
 // Where a list of them ends: so many behind their count.
+#[inline(always)]
 pub fn list_end<C: Chained>(room: &[u8], at: usize) -> Option<Tally>
     requires { at ≤ length room.now }
     ensures { Walks (list_of C.chain) room.now at result }
